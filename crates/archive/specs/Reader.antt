@@ -1,0 +1,111 @@
+-- What a file says, and what the reader refuses it for. Assumes nothing.
+use mathlib.Core.Bool.{Bool, not, _||_}
+use mathlib.Core.List.{List, [], _∷_, _++_}
+use Prim.Native.Nat.{ℕ, _+_, _*_, _-_, _/_, _%_}
+use lib.Dec.{eqb, ltb}
+use lib.ListN.{length, take, drop}
+use Rattle.edition.specs.declared.Search.{Search}
+use Rattle.edition.specs.declared.Verdict.{Verdict}
+use Rattle.edition.specs.declared.Why.the-variants.{BadLength, NoRoom, BadEntry}
+use Rattle.edition.specs.Limits.{linkWidth, entryWidth}
+use Rattle.edition.specs.Stored.{editionLimits, blockBytes, entryBytes}
+use Rattle.edition.specs.Refusals.{made}
+use Rattle.rows.specs.Count.{rowsTo}
+use Rattle.rows.specs.First.{refuseIf, refuseAt, firstly, verdictTo}
+use Rattle.rows.specs.Lists.{same}
+use Rattle.network.specs.Network.{Net, netOf, linksIn}
+use Rattle.network.specs.Records.{sizeVerdict}
+use Rattle.sound.specs.Sound.{recordVerdict}
+use Rattle.swap.specs.Entry.{entry}
+use Rattle.table.specs.Table.{table, entriesIn}
+use Rattle.block.specs.Bytes.{numberIn}
+use Rattle.block.specs.Block.{blockVerdict}
+use Rattle.archive.specs.Parts.{Part, blockCount, partAt, linkPlace, entryPlace}
+use Rattle.archive.specs.Writer.{entryRecord}
+
+-- The header's numbers: n, m, root, depth.
+unfoldable pub nodesRead : List ℕ → ℕ
+nodesRead file = numberIn file 8 2
+
+unfoldable pub linksRead : List ℕ → ℕ
+linksRead file = numberIn file 10 2
+
+unfoldable pub searchRead : List ℕ → Search
+searchRead file = record { root = numberIn file 12 2; depth = numberIn file 14 2 }
+
+-- The row of links: two ends, length and service mark of each.
+unfoldable pub linkRow : List ℕ → List ℕ
+linkRow file = rowsTo (λ e. rowsTo (λ i. numberIn file (linkPlace e + 2 * i) 2 ∷ []) linkWidth) (linksRead file)
+
+-- The row of parents: the first number of each entry.
+unfoldable pub parentRow : List ℕ → List ℕ
+parentRow file = rowsTo (λ x. numberIn file (entryPlace (linksRead file) x) 2 ∷ []) (nodesRead file)
+
+-- The network that a file holds.
+unfoldable pub netRead : List ℕ → Net
+netRead file = netOf (linkRow file) (parentRow file) (searchRead file)
+
+-- Block i of a file, as bytes, and what it is refused for in a file of n nodes and m links.
+unfoldable pub blockAt : List ℕ → ℕ → List ℕ
+blockAt file i = take blockBytes (drop (i * blockBytes) file)
+
+unfoldable pub blockRefusal : List ℕ → ℕ → ℕ → ℕ → Verdict
+blockRefusal file n m i = let p = partAt n m i in blockVerdict (p .kind) i (p .used) (blockAt file i)
+
+-- 20: the file is empty or not a multiple of 512 bytes.
+unfoldable pub unequal : List ℕ → Bool
+unequal file = eqb (length file) 0 || not (eqb (length file % blockBytes) 0)
+
+-- 24: the stored entry of x is not the one worked out.
+unfoldable pub badEntry : List ℕ → ℕ → Bool
+badEntry file x =
+    let g = netRead file in
+    not (same (take entryBytes (drop (entryPlace (g .links) x) file)) (entryRecord (g .parent x) (entry g x)))
+
+-- The three lent rows: of links, parents and entries.
+pub record Rows : Type 0 where
+  pub links : List ℕ
+  pub parents : List ℕ
+  pub entries : List ℕ
+
+-- 10: a lent row is too short.
+unfoldable pub tight : ℕ → ℕ → Rows → Bool
+tight n m rows =
+    ltb (linksIn (rows .links)) m || ltb (length (rows .parents)) n || ltb (entriesIn (rows .entries)) n
+
+-- The length, the header's block, and 1 to 4 from its numbers at edition 1's limits.
+unfoldable pub headVerdict : List ℕ → Verdict
+headVerdict file =
+    firstly
+    (refuseIf (unequal file) BadLength 0 ∷
+    blockRefusal file 0 0 0 ∷
+    sizeVerdict editionLimits (nodesRead file) (linksRead file) (searchRead file) ∷ [])
+
+-- The number of blocks; then block by block; then 5 to 9, 10 and 24.
+unfoldable pub restVerdict : List ℕ → Rows → Verdict
+restVerdict file rows =
+    let n = nodesRead file in
+    let m = linksRead file in
+    firstly
+    (refuseIf (not (eqb (length file) (blockCount n m * blockBytes))) BadLength 0 ∷
+    verdictTo (blockRefusal file n m) (blockCount n m) ∷
+    recordVerdict (netRead file) ∷
+    refuseIf (tight n m rows) NoRoom 0 ∷
+    refuseAt (badEntry file) n BadEntry ∷ [])
+
+-- The order for a file.
+unfoldable pub readVerdict : List ℕ → Rows → Verdict
+readVerdict file rows = let rest = restVerdict file rows in firstly (headVerdict file ∷ rest ∷ [])
+
+-- What the lent rows then hold: links, parents and entries of the file, and what lay past them; on a refusal what they held.
+unfoldable pub rowsRead : List ℕ → Rows → Rows
+rowsRead file rows =
+    let n = nodesRead file in
+    let m = linksRead file in
+    let new : Rows =
+    record {
+      links = linkRow file ++ drop (m * linkWidth) (rows .links);
+      parents = parentRow file ++ drop n (rows .parents);
+      entries = table (netRead file) ++ drop (n * entryWidth) (rows .entries);
+    } in
+    made (readVerdict file rows) new rows

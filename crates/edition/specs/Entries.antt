@@ -1,0 +1,32 @@
+-- An entry and its record in memory. Assumes nothing.
+use mathlib.Core.List.{List, [], _∷_}
+use Prim.Native.Nat.{ℕ}
+use Rattle.edition.specs.declared.Swap.{Swap}
+use Rattle.edition.specs.declared.Entry.{Entry}
+use Rattle.edition.specs.Limits.{noLink}
+
+-- The states: 0 root; 1 swap; 2 links cross but none within the depth; 3 bridge, nothing crosses.
+abbrev pub rootState : ℕ
+rootState = 0
+
+abbrev pub swapState : ℕ
+swapState = 1
+
+abbrev pub noneState : ℕ
+noneState = 2
+
+abbrev pub bridgeState : ℕ
+bridgeState = 3
+
+-- No swap link: the link is 65,535 and the cost 0.
+abbrev pub noSwap : Swap
+noSwap = record { link = noLink; cost = 0 }
+
+-- An entry that has no links and costs.
+abbrev pub blank : ℕ → Entry
+blank state = record { state = state; sum = noSwap; incr = noSwap; max = noSwap }
+
+-- The numbers of an entry's record: state, links for sum, incr and max, costs for sum, incr and max.
+unfoldable pub entryRow : Entry → List ℕ
+entryRow e =
+    e .state ∷ e .sum .link ∷ e .incr .link ∷ e .max .link ∷ e .sum .cost ∷ e .incr .cost ∷ e .max .cost ∷ []

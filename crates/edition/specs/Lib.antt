@@ -1,0 +1,4 @@
+pub mod Limits
+pub mod Stored
+pub mod Refusals
+pub mod Entries

@@ -1,0 +1,36 @@
+-- The refusal numbers of document 01, in one table. Assumes nothing.
+use Prim.Native.Nat.{ℕ}
+use Rattle.edition.specs.declared.Why.{Why}
+use Rattle.edition.specs.declared.Why.the-variants.{NodeCount, LinkCount, BadRoot, BadDepth, BadEnds, BadMark, BadParent, NoRoute, NotShort, NoRoom, LinkMissing, TreeLink, BreaksShort, BadLength, BadCheck, BadBlock, BadEntry}
+use Rattle.edition.specs.declared.Refusal.{Refusal}
+use Rattle.edition.specs.declared.Verdict.{Verdict}
+use Rattle.edition.specs.declared.Verdict.the-variants.{Taken, Refused}
+
+-- The number that document 01 gives each refusal.
+unfoldable pub numberOf : Why → ℕ
+numberOf NodeCount = 1
+numberOf LinkCount = 2
+numberOf BadRoot = 3
+numberOf BadDepth = 4
+numberOf BadEnds = 5
+numberOf BadMark = 6
+numberOf BadParent = 7
+numberOf NoRoute = 8
+numberOf NotShort = 9
+numberOf NoRoom = 10
+numberOf LinkMissing = 11
+numberOf TreeLink = 12
+numberOf BreaksShort = 13
+numberOf BadLength = 20
+numberOf BadCheck = 21
+numberOf BadBlock = 22
+numberOf BadEntry = 24
+
+-- Refused, with a reason and a place.
+abbrev pub refused : Why → ℕ → Verdict
+refused why place = Refused (record { why = why; place = place })
+
+-- The first where the verdict is taken, the second where it refuses.
+abbrev pub made : {A : Type 0} → Verdict → A → A → A
+made Taken x y = x
+made (Refused r) x y = y

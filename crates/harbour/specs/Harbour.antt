@@ -1,0 +1,175 @@
+-- The Harbour case of document 01: what is asked in P1 to P12, and the numbers that it gives. Assumes nothing.
+use mathlib.Core.Bool.{Bool, true, false, _&&_}
+use mathlib.Core.List.{List, [], _∷_, _++_}
+use Prim.Native.Nat.{ℕ, _*_}
+use lib.ListN.{replicate}
+use Rattle.edition.specs.declared.Why.{Why}
+use Rattle.edition.specs.declared.Refusal.{Refusal}
+use Rattle.edition.specs.declared.Verdict.{Verdict}
+use Rattle.edition.specs.declared.Verdict.the-variants.{Taken, Refused}
+use Rattle.edition.specs.declared.Search.{Search}
+use Rattle.edition.specs.declared.Change.{Change}
+use Rattle.edition.specs.Limits.{noLink, noNode, wholeSearch, entryWidth, mapWords}
+use Rattle.edition.specs.Refusals.{numberOf}
+use Rattle.edition.specs.Entries.{entryRow}
+use Rattle.rows.specs.Lists.{same}
+use Rattle.network.specs.Network.{Net, netOf}
+use Rattle.swap.specs.Entry.{entry}
+use Rattle.table.specs.Table.{tableVerdict, tableRow}
+use Rattle.table.specs.Map.{mapVerdict, mapRow, ones, lowest}
+use Rattle.change.specs.Change.{changeVerdict, changed, Lent}
+
+-- Links as two ends, length and service mark; parent links of nodes 0 to 4.
+unfoldable pub links : List ℕ
+links =
+    0 ∷ 1 ∷ 2 ∷ 1 ∷
+    1 ∷ 2 ∷ 3 ∷ 1 ∷
+    1 ∷ 3 ∷ 1 ∷ 1 ∷
+    0 ∷ 2 ∷ 6 ∷ 1 ∷
+    0 ∷ 3 ∷ 7 ∷ 1 ∷
+    2 ∷ 3 ∷ 4 ∷ 1 ∷
+    0 ∷ 4 ∷ 9 ∷ 1 ∷ []
+
+unfoldable pub parents : List ℕ
+parents = noLink ∷ 0 ∷ 1 ∷ 2 ∷ 6 ∷ []
+
+unfoldable pub at : ℕ → Search
+at depth = record { root = 0; depth = depth }
+
+unfoldable pub harbour : ℕ → Net
+harbour depth = netOf links parents (at depth)
+
+-- n = 1, m = 0.
+unfoldable pub alone : Net
+alone = netOf [] (noLink ∷ []) (at wholeSearch)
+
+-- Node 0's entry, a bridge's entry, and the table of the whole search: P1 to P4.
+unfoldable pub rootEntry : List ℕ
+rootEntry = 0 ∷ noLink ∷ noLink ∷ noLink ∷ 0 ∷ 0 ∷ 0 ∷ []
+
+unfoldable pub bridge : List ℕ
+bridge = 3 ∷ noLink ∷ noLink ∷ noLink ∷ 0 ∷ 0 ∷ 0 ∷ []
+
+unfoldable pub one : List ℕ
+one = 1 ∷ 3 ∷ 4 ∷ 3 ∷ 25 ∷ 6 ∷ 10 ∷ []
+
+unfoldable pub two : List ℕ
+two = 1 ∷ 3 ∷ 3 ∷ 3 ∷ 6 ∷ 1 ∷ 6 ∷ []
+
+unfoldable pub three : List ℕ
+three = 1 ∷ 4 ∷ 4 ∷ 4 ∷ 7 ∷ 4 ∷ 7 ∷ []
+
+unfoldable pub right : List ℕ
+right = rootEntry ++ one ++ two ++ three ++ bridge
+
+-- A table whose every number is wrong, and one wrong entry.
+unfoldable pub wrong : List ℕ
+wrong = replicate (5 * entryWidth) 9
+
+unfoldable pub nine : List ℕ
+nine = replicate entryWidth 9
+
+-- The row of links after P7 (link 5 has length 2) and after P9 (link 3 is withdrawn).
+unfoldable pub linksSeven : List ℕ
+linksSeven =
+    0 ∷ 1 ∷ 2 ∷ 1 ∷
+    1 ∷ 2 ∷ 3 ∷ 1 ∷
+    1 ∷ 3 ∷ 1 ∷ 1 ∷
+    0 ∷ 2 ∷ 6 ∷ 1 ∷
+    0 ∷ 3 ∷ 7 ∷ 1 ∷
+    2 ∷ 3 ∷ 2 ∷ 1 ∷
+    0 ∷ 4 ∷ 9 ∷ 1 ∷ []
+
+unfoldable pub linksNine : List ℕ
+linksNine =
+    0 ∷ 1 ∷ 2 ∷ 1 ∷
+    1 ∷ 2 ∷ 3 ∷ 1 ∷
+    1 ∷ 3 ∷ 1 ∷ 1 ∷
+    0 ∷ 2 ∷ 6 ∷ 0 ∷
+    0 ∷ 3 ∷ 7 ∷ 1 ∷
+    2 ∷ 3 ∷ 4 ∷ 1 ∷
+    0 ∷ 4 ∷ 9 ∷ 1 ∷ []
+
+-- Entries after P7 and P9.
+unfoldable pub twoSeven : List ℕ
+twoSeven = 1 ∷ 5 ∷ 5 ∷ 5 ∷ 5 ∷ 0 ∷ 5 ∷ []
+
+unfoldable pub oneNine : List ℕ
+oneNine = 1 ∷ 4 ∷ 4 ∷ 4 ∷ 26 ∷ 6 ∷ 11 ∷ []
+
+unfoldable pub twoNine : List ℕ
+twoNine = 1 ∷ 5 ∷ 5 ∷ 5 ∷ 7 ∷ 2 ∷ 7 ∷ []
+
+-- What is asked.
+pub data Ask : Type 0 where
+  -- the entry of a node at a depth
+  entryAt : ℕ → ℕ → Ask
+  -- the verdict on a table, and the row that held nines
+  tableOf : Net → Ask
+  -- the verdict on the map, the row that held nines, the number of ones and the lowest node
+  mapOf : Net → Ask
+  -- the verdict on a change at the whole search (link, mark, length) of a table, and the rows of links and entries after it
+  change : ℕ → ℕ → ℕ → List ℕ → Ask
+
+-- A verdict in numbers: 0 and 0, or a refusal's number and place.
+unfoldable pub said : Verdict → List ℕ
+said Taken = 0 ∷ 0 ∷ []
+said (Refused r) = numberOf (r .why) ∷ r .place ∷ []
+
+unfoldable pub room : Net → List ℕ
+room g = replicate (g .nodes * entryWidth) 9
+
+unfoldable pub after : Lent → List ℕ
+after lent = lent .links ++ lent .entries
+
+-- What the definitions answer.
+unfoldable pub answer : Ask → List ℕ
+answer (entryAt depth x) = entryRow (entry (harbour depth) x)
+answer (tableOf g) = said (tableVerdict g (room g)) ++ tableRow g (room g)
+answer (mapOf g) = said (mapVerdict g (replicate mapWords 9)) ++ mapRow g (replicate mapWords 9) ++ (ones g ∷ lowest g ∷ [])
+answer (change e s w entries) =
+    let c : Change = record { link = e; mark = s; length = w } in
+    said (changeVerdict (harbour wholeSearch) entries c) ++
+    after (changed parents (at wholeSearch) c (record { links = links; entries = entries }))
+
+-- A question and the numbers that document 01 gives.
+pub data Case : Type 0 where
+  _gives_ : Ask → List ℕ → Case
+
+infix 5 _gives_
+
+-- P1 to P12.
+unfoldable pub cases : List Case
+cases =
+    -- P1 to P4
+    (entryAt wholeSearch 1 gives one) ∷
+    (entryAt wholeSearch 2 gives two) ∷
+    (entryAt wholeSearch 3 gives three) ∷
+    (entryAt wholeSearch 4 gives bridge) ∷
+    (tableOf (harbour wholeSearch) gives (0 ∷ 0 ∷ right)) ∷
+    (mapOf (harbour wholeSearch) gives (0 ∷ 0 ∷ 16 ∷ 0 ∷ 0 ∷ 0 ∷ 0 ∷ 0 ∷ 0 ∷ 0 ∷ 1 ∷ 4 ∷ [])) ∷
+    -- P5
+    (entryAt 0 1 gives (2 ∷ noLink ∷ noLink ∷ noLink ∷ 0 ∷ 0 ∷ 0 ∷ [])) ∷
+    (mapOf (harbour 0) gives (0 ∷ 0 ∷ 18 ∷ 0 ∷ 0 ∷ 0 ∷ 0 ∷ 0 ∷ 0 ∷ 0 ∷ 2 ∷ 1 ∷ [])) ∷
+    -- P6
+    (tableOf (harbour 1) gives (0 ∷ 0 ∷ right)) ∷
+    -- P7
+    (change 5 1 2 right gives (0 ∷ 0 ∷ linksSeven ++ rootEntry ++ one ++ twoSeven ++ three ++ bridge)) ∷
+    (change 5 1 2 wrong gives (0 ∷ 0 ∷ linksSeven ++ nine ++ nine ++ twoSeven ++ three ++ nine)) ∷
+    -- P8
+    (change 5 1 1 right gives (13 ∷ 5 ∷ links ++ right)) ∷
+    -- P9
+    (change 3 0 6 right gives (0 ∷ 0 ∷ linksNine ++ rootEntry ++ oneNine ++ twoNine ++ three ++ bridge)) ∷
+    (change 3 0 6 wrong gives (0 ∷ 0 ∷ linksNine ++ nine ++ oneNine ++ twoNine ++ nine ++ nine)) ∷
+    -- P10
+    (change 0 1 2 right gives (12 ∷ 0 ∷ links ++ right)) ∷
+    -- P11
+    (tableOf alone gives (0 ∷ 0 ∷ rootEntry)) ∷
+    (mapOf alone gives (0 ∷ 0 ∷ 0 ∷ 0 ∷ 0 ∷ 0 ∷ 0 ∷ 0 ∷ 0 ∷ 0 ∷ 0 ∷ noNode ∷ [])) ∷
+    -- P12
+    (change 7 1 2 right gives (11 ∷ 0 ∷ links ++ right)) ∷ []
+
+-- Does every case hold?
+unfoldable pub holds : List Case → Bool
+holds [] = true
+holds ((q gives a) ∷ rest) = same (answer q) a && holds rest

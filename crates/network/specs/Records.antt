@@ -1,0 +1,58 @@
+-- Refusals 1 to 7: the sizes, and what a link's or a node's own record is refused for. Assumes nothing.
+use mathlib.Core.Bool.{Bool, cond, not, _&&_, _||_}
+use mathlib.Core.List.{List, [], _∷_}
+use Prim.Native.Nat.{ℕ}
+use lib.Dec.{eqb, leb, ltb}
+use Rattle.edition.specs.declared.Limits.{Limits}
+use Rattle.edition.specs.declared.Search.{Search}
+use Rattle.edition.specs.declared.Verdict.{Verdict}
+use Rattle.edition.specs.declared.Why.the-variants.{NodeCount, LinkCount, BadRoot, BadDepth, BadEnds, BadMark, BadParent}
+use Rattle.edition.specs.Limits.{noLink, wholeSearch, served, withdrawn}
+use Rattle.rows.specs.First.{refuseIf, refuseAt, firstly}
+use Rattle.network.specs.declared.Link.{Link}
+use Rattle.network.specs.Network.{Net, inService, touches, otherEnd}
+
+-- 1: n is 0 or over the limit.
+unfoldable pub badNodes : Limits → ℕ → Bool
+badNodes most n = eqb n 0 || ltb (most .nodes) n
+
+-- 2: m is over the limit.
+unfoldable pub badLinks : Limits → ℕ → Bool
+badLinks most m = ltb (most .links) m
+
+-- 3: the root is not a node.
+unfoldable pub badRoot : ℕ → ℕ → Bool
+badRoot n root = leb n root
+
+-- 4: the depth is over the limit and not the whole search.
+unfoldable pub badDepth : Limits → ℕ → Bool
+badDepth most depth = ltb (most .depth) depth && not (eqb depth wholeSearch)
+
+-- 1 to 4, of numbers: n, m, root and depth.
+unfoldable pub sizeVerdict : Limits → ℕ → ℕ → Search → Verdict
+sizeVerdict most n m search =
+    firstly
+    (refuseIf (badNodes most n) NodeCount 0 ∷
+    refuseIf (badLinks most m) LinkCount 0 ∷
+    refuseIf (badRoot n (search .root)) BadRoot 0 ∷
+    refuseIf (badDepth most (search .depth)) BadDepth 0 ∷ [])
+
+-- 5: an end is not a node, or both ends are equal.
+unfoldable pub badEnds : Net → ℕ → Bool
+badEnds g e =
+    let l = g .link e in
+    leb (g .nodes) (l .first) || leb (g .nodes) (l .second) || eqb (l .first) (l .second)
+
+-- 6: the service mark is not 0 or 1.
+unfoldable pub badMark : ℕ → Bool
+badMark mark = not (eqb mark withdrawn || eqb mark served)
+
+-- 7 for a node that is not the root: its parent link is no link, withdrawn or not touching it.
+unfoldable pub unfit : Net → ℕ → Bool
+unfit g u =
+    let e = g .parent u in
+    leb (g .links) e || not (inService (g .link e)) || not (touches (g .link e) u)
+
+-- 7: the root's parent link is not 65,535, or another's is unfit.
+unfoldable pub badParent : Net → ℕ → Bool
+badParent g u = let other = unfit g u in cond (eqb u (g .search .root)) (not (eqb (g .parent u) noLink)) other

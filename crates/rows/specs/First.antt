@@ -1,0 +1,53 @@
+-- The best and the first of the numbers below k, and the first refusal of a list. Assumes nothing.
+use mathlib.Core.Bool.{Bool, true, false, cond, _&&_}
+use mathlib.Core.List.{List, [], _∷_}
+use Prim.Native.Nat.{ℕ, zero, suc}
+use Rattle.edition.specs.declared.Found.{Found}
+use Rattle.edition.specs.declared.Found.the-variants.{Nothing, At}
+use Rattle.edition.specs.declared.Why.{Why}
+use Rattle.edition.specs.declared.Verdict.{Verdict}
+use Rattle.edition.specs.declared.Verdict.the-variants.{Taken, Refused}
+use Rattle.edition.specs.Refusals.{refused}
+
+-- Does k take the place of the best so far: there is none yet, or k is to come before it?
+unfoldable pub beats : (ℕ → ℕ → Bool) → ℕ → Found → Bool
+beats before k Nothing = true
+beats before k (At b) = before k b
+
+-- The best of the numbers below k that may stand, the lowest of those that nothing tells apart.
+unfoldable pub bestTo : (ℕ → Bool) → (ℕ → ℕ → Bool) → ℕ → Found
+bestTo may before zero = Nothing
+bestTo may before (suc k) = let best = bestTo may before k in cond (may k && beats before k best) (At k) best
+
+-- The lowest number below k that passes the test.
+unfoldable pub firstTo : (ℕ → Bool) → ℕ → Found
+firstTo p k = bestTo p (λ a b. false) k
+
+-- The number found, or another where nothing is.
+unfoldable pub foundOr : ℕ → Found → ℕ
+foundOr other Nothing = other
+foundOr other (At k) = k
+
+-- Refused for this reason at what is found.
+unfoldable pub refusedAt : Why → Found → Verdict
+refusedAt why Nothing = Taken
+refusedAt why (At k) = refused why k
+
+-- Refused at the lowest place below k where the test holds.
+unfoldable pub refuseAt : (ℕ → Bool) → ℕ → Why → Verdict
+refuseAt p k why = refusedAt why (firstTo p k)
+
+-- Refused at this place where the test holds.
+unfoldable pub refuseIf : Bool → Why → ℕ → Verdict
+refuseIf b why place = cond b (refused why place) Taken
+
+-- The first refusal of a list of checks.
+unfoldable pub firstly : List Verdict → Verdict
+firstly [] = Taken
+firstly (Taken ∷ rest) = firstly rest
+firstly (Refused r ∷ rest) = Refused r
+
+-- The first refusal of the checks f 0 to f (k - 1).
+unfoldable pub verdictTo : (ℕ → Verdict) → ℕ → Verdict
+verdictTo f zero = Taken
+verdictTo f (suc k) = firstly (verdictTo f k ∷ f k ∷ [])

@@ -1,0 +1,37 @@
+-- Lists of numbers: what is in one, a list up to one of its numbers, what two share first. Assumes nothing.
+use mathlib.Core.Bool.{Bool, true, false, cond, not, _&&_, _||_, Bool·beq}
+use mathlib.Core.List.{List, [], _∷_}
+use Prim.Native.Nat.{ℕ, _+_}
+use lib.Dec.{eqb}
+use Rattle.edition.specs.Limits.{noNode}
+
+-- Is c in the list?
+unfoldable pub has : ℕ → List ℕ → Bool
+has c [] = false
+has c (u ∷ r) = eqb u c || has c r
+
+-- The list up to its first c, which is left out.
+unfoldable pub upTo : ℕ → List ℕ → List ℕ
+upTo c [] = []
+upTo c (u ∷ r) = let rest = u ∷ upTo c r in cond (eqb u c) [] rest
+
+-- The first of a list that is in the other list.
+unfoldable pub firstOf : List ℕ → List ℕ → ℕ
+firstOf other [] = noNode
+firstOf other (u ∷ r) = let rest = firstOf other r in cond (has u other) u rest
+
+-- The sum of f over a list.
+unfoldable pub total : (ℕ → ℕ) → List ℕ → ℕ
+total f [] = 0
+total f (u ∷ r) = f u + total f r
+
+-- Are two lists the same?
+unfoldable pub same : List ℕ → List ℕ → Bool
+same [] [] = true
+same [] (y ∷ ys) = false
+same (x ∷ xs) [] = false
+same (x ∷ xs) (y ∷ ys) = eqb x y && same xs ys
+
+-- Does exactly one of two hold?
+abbrev pub differ : Bool → Bool → Bool
+differ a b = not (Bool·beq a b)

@@ -1,0 +1,50 @@
+-- The entry of a node: its state, and under each measure the best candidate and its cost. Assumes nothing.
+use mathlib.Core.Bool.{Bool, cond}
+use Prim.Native.Nat.{ℕ}
+use lib.Dec.{eqb}
+use Rattle.edition.specs.declared.Found.{Found}
+use Rattle.edition.specs.declared.Found.the-variants.{Nothing, At}
+use Rattle.edition.specs.declared.Search.{Search}
+use Rattle.edition.specs.declared.Measure.{Measure}
+use Rattle.edition.specs.declared.Measure.the-variants.{Sum, Incr, Max}
+use Rattle.edition.specs.declared.Swap.{Swap}
+use Rattle.edition.specs.declared.Entry.{Entry}
+use Rattle.edition.specs.Entries.{rootState, swapState, noneState, bridgeState, noSwap, blank}
+use Rattle.rows.specs.Count.{someTo}
+use Rattle.network.specs.Network.{Net}
+use Rattle.tree.specs.Tree.{Tree, treeOf}
+use Rattle.swap.specs.Swap.{crosses, candidate, costOf, bestSwap}
+
+-- Does some link cross x?
+unfoldable pub crossed : Net → ℕ → Bool
+crossed g x = someTo (λ e. crosses (treeOf g) x e (g .link e)) (g .links)
+
+-- Is some link a candidate of x?
+unfoldable pub saved : Net → ℕ → Bool
+saved g x = someTo (candidate g x) (g .links)
+
+-- 1 swap; 2 links cross but none within the depth; 3 bridge, nothing crosses.
+unfoldable pub stateBelow : Net → ℕ → ℕ
+stateBelow g x =
+    let far = cond (crossed g x) noneState bridgeState in
+    cond (saved g x) swapState far
+
+-- The state of every node: 0 for the root.
+unfoldable pub state : Net → ℕ → ℕ
+state g x = let other = stateBelow g x in cond (eqb x (g .search .root)) rootState other
+
+-- The link found with its cost; no link and 0 where nothing is found.
+unfoldable pub priced : Measure → Net → ℕ → Found → Swap
+priced s g x Nothing = noSwap
+priced s g x (At e) = record { link = e; cost = costOf s g x e }
+
+-- The best candidate under a measure, with its cost.
+unfoldable pub swapOf : Measure → Net → ℕ → Swap
+swapOf s g x = priced s g x (bestSwap s g x)
+
+-- The entry of x: blank for the root; for another node its state and its best candidates.
+unfoldable pub entry : Net → ℕ → Entry
+entry g x =
+    let own : Entry =
+    record { state = stateBelow g x; sum = swapOf Sum g x; incr = swapOf Incr g x; max = swapOf Max g x } in
+    cond (eqb x (g .search .root)) (blank rootState) own

@@ -1,0 +1,31 @@
+-- The table: an entry a node, in node order, in a lent row. Assumes nothing.
+use mathlib.Core.List.{List, [], _∷_, _++_}
+use Prim.Native.Nat.{ℕ, _*_, _/_}
+use lib.Dec.{ltb}
+use lib.ListN.{length, drop}
+use Rattle.edition.specs.declared.Verdict.{Verdict}
+use Rattle.edition.specs.declared.Why.the-variants.{NoRoom}
+use Rattle.edition.specs.Limits.{entryWidth}
+use Rattle.edition.specs.Refusals.{made}
+use Rattle.edition.specs.Entries.{entryRow}
+use Rattle.rows.specs.Count.{rowsTo}
+use Rattle.rows.specs.First.{refuseIf, firstly}
+use Rattle.network.specs.Network.{Net}
+use Rattle.sound.specs.Sound.{netVerdict}
+use Rattle.swap.specs.Entry.{entry}
+
+-- The record of each node's entry, one after the other.
+unfoldable pub table : Net → List ℕ
+table g = rowsTo (λ x. entryRow (entry g x)) (g .nodes)
+
+-- How many whole entries a row holds.
+abbrev pub entriesIn : List ℕ → ℕ
+entriesIn row = length row / entryWidth
+
+-- 1 to 9, then 10 where fewer entries are lent than there are nodes.
+unfoldable pub tableVerdict : Net → List ℕ → Verdict
+tableVerdict g row = firstly (netVerdict g ∷ refuseIf (ltb (entriesIn row) (g .nodes)) NoRoom 0 ∷ [])
+
+-- What the lent row then holds: the table and what lay past it, or on a refusal what it held.
+unfoldable pub tableRow : Net → List ℕ → List ℕ
+tableRow g row = let new = table g ++ drop (g .nodes * entryWidth) row in made (tableVerdict g row) new row

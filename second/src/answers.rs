@@ -1,0 +1,179 @@
+//! What the probe must print for each case.
+
+use crate::block::payload;
+use crate::change::{change, Change};
+use crate::check::check;
+use crate::file::write;
+use crate::limits::*;
+use crate::map::map;
+use crate::probe::*;
+use crate::reader::{read, Said};
+use crate::refusal::Refusal;
+use crate::table::table;
+use std::fmt::Write;
+
+/// The last line of most answers: nothing past the answer is ever written.
+const REST: &str = "rest kept\n";
+const LINKS: &str = "links kept\n";
+
+/// All that the probe must print for an input.
+pub fn answers(mut input: &[u8]) -> String {
+    let mut text = String::new();
+    loop {
+        match next(&mut input) {
+            Next::Case(case) => text += &answer(&case),
+            Next::Unknown => return text + "unknown\n",
+            Next::TooLong => return text + "too long\n",
+            Next::End => return text,
+        }
+    }
+}
+
+/// What the probe must print for one case.
+pub fn answer(case: &Case) -> String {
+    match case.op {
+        CHECK => check_answer(case),
+        TABLE => table_answer(case),
+        MAP => map_answer(case),
+        CHANGE => change_answer(case),
+        CHANGE_UNFILLED => unfilled_answer(case),
+        WRITE => write_answer(case),
+        READ => read_answer(case),
+        _ => block_answer(case),
+    }
+}
+
+fn refused(call: &str, refusal: &Refusal) -> String {
+    format!("{call} {}\n", refusal.words())
+}
+
+/// `ok`, or the refusal, of a call that answers nothing more.
+fn verdict(call: &str, answer: Result<(), Refusal>) -> String {
+    match answer {
+        Ok(()) => format!("{call} ok\n"),
+        Err(refusal) => refused(call, &refusal),
+    }
+}
+
+/// Numbers with a space before each.
+fn spaced<T: ToString>(numbers: &[T]) -> String {
+    numbers.iter().map(|w| format!(" {}", w.to_string())).collect()
+}
+
+/// The entry lines of the first `count` entries.
+fn entry_lines(row: &[u64], count: usize) -> String {
+    let entries = row.chunks_exact(ENTRY_WIDTH).take(count).enumerate();
+    entries.map(|(x, entry)| format!("{x}{}\n", spaced(entry))).collect()
+}
+
+/// The link lines of the first `count` links.
+fn link_lines(row: &[u16], count: usize) -> String {
+    let links = row.chunks_exact(LINK_WIDTH).take(count);
+    links.map(|link| format!("link{}\n", spaced(link))).collect()
+}
+
+fn byte_lines(bytes: &[u8]) -> String {
+    let mut text = String::new();
+    for line in bytes.chunks(BYTES_A_LINE) {
+        for byte in line {
+            write!(text, "{byte:02x}").expect("a string takes all");
+        }
+        text.push('\n');
+    }
+    text
+}
+
+fn lent_row(room: usize) -> Vec<u64> {
+    vec![u64::from(ROW_FILL); room]
+}
+
+fn check_answer(case: &Case) -> String {
+    let rows = case.rows();
+    verdict("check", check(&rows.lend(), case.depth).map(|_| ()))
+}
+
+fn table_answer(case: &Case) -> String {
+    let rows = case.rows();
+    let mut row = lent_row(case.room);
+    let answer = table(&rows.lend(), case.depth, &mut row);
+    let count = answer.map_or(0, |()| rows.parents.len());
+    verdict("table", answer) + &entry_lines(&row, count) + REST
+}
+
+fn map_answer(case: &Case) -> String {
+    let rows = case.rows();
+    let mut row = lent_row(case.room);
+    let line = match map(&rows.lend(), case.depth, &mut row) {
+        Ok(map) => {
+            let words = spaced(&row[..MAP_WORDS]);
+            format!("map ok {} {}{words}\n", map.count, map.lowest)
+        }
+        Err(refusal) => refused("map", &refusal),
+    };
+    line + REST
+}
+
+fn change_answer(case: &Case) -> String {
+    let mut row = lent_row(case.room);
+    match table(&case.rows().lend(), case.depth, &mut row) {
+        Ok(()) => changed(case, &mut row, case.parents.len()),
+        Err(refusal) => refused("table", &refusal),
+    }
+}
+
+fn unfilled_answer(case: &Case) -> String {
+    let mut row = lent_row(case.room);
+    let count = case.parents.len().min(case.room / ENTRY_WIDTH);
+    changed(case, &mut row, count)
+}
+
+/// The answer of the change, then link, entries, links, rest.
+fn changed(case: &Case, row: &mut [u64], count: usize) -> String {
+    let [link, mark, length] = case.abc;
+    let wanted = Change { link, mark, length };
+    let mut rows = case.rows();
+    let answer = change(&mut rows, case.depth, row, &wanted);
+    let mut text = verdict("change", answer);
+    if (link as usize) < rows.lend().m() {
+        text += &link_lines(&rows.links[LINK_WIDTH * link as usize..], 1);
+    }
+    text + &entry_lines(row, count) + LINKS + REST
+}
+
+fn write_answer(case: &Case) -> String {
+    let rows = case.rows();
+    let mut room = vec![BYTE_FILL; case.room];
+    let text = match write(&rows.lend(), case.depth, &mut room) {
+        Ok(length) => format!("write ok {length}\n{}", byte_lines(&room[..length])),
+        Err(refusal) => refused("write", &refusal),
+    };
+    text + REST
+}
+
+fn read_answer(case: &Case) -> String {
+    let [a, b, c] = case.abc.map(usize::from);
+    let mut links = vec![ROW_FILL; a];
+    let mut parents = vec![ROW_FILL; b];
+    let mut row = lent_row(c);
+    let text = match read(&case.bytes, &mut links, &mut parents, &mut row) {
+        Ok(said) => read_lines(&said, &links, &parents, &row),
+        Err(refusal) => refused("read", &refusal),
+    };
+    text + REST
+}
+
+fn read_lines(said: &Said, links: &[u16], parents: &[u16], row: &[u64]) -> String {
+    let Said { n, m, root, depth } = *said;
+    format!("read ok {n} {m} {root} {depth}\n")
+        + &link_lines(links, m)
+        + &format!("parents{}\n", spaced(&parents[..n]))
+        + &entry_lines(row, n)
+}
+
+fn block_answer(case: &Case) -> String {
+    let [kind, number, used] = case.abc;
+    match payload(&case.bytes, kind, number, used) {
+        Ok(part) => "block ok\n".to_string() + &byte_lines(part),
+        Err(refusal) => refused("block", &refusal),
+    }
+}

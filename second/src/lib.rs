@@ -1,0 +1,29 @@
+//! A second program for the swap table of document 01.
+//!
+//! It is written from the paper's definitions and shares nothing with the
+//! proved library. It makes cases for the probe, says what the probe must
+//! print, lists stored files and writes sample files.
+
+pub mod answers;
+pub mod block;
+pub mod cases;
+pub mod change;
+pub mod check;
+pub mod faults;
+pub mod file;
+pub mod file_faults;
+pub mod harbour;
+pub mod limits;
+pub mod listing;
+pub mod map;
+pub mod named;
+pub mod network;
+pub mod probe;
+pub mod random;
+pub mod reader;
+pub mod refusal;
+pub mod rng;
+pub mod samples;
+pub mod shapes;
+pub mod table;
+pub mod tree;

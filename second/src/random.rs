@@ -1,0 +1,95 @@
+//! Random networks, depths and rooms.
+
+use crate::limits::*;
+use crate::network::Rows;
+use crate::rng::Rng;
+use crate::shapes::Draft;
+
+/// Mostly few nodes, at times some dozens, seldom up to the limit.
+fn size(rng: &mut Rng) -> usize {
+    match rng.below(100) {
+        0..=79 => rng.from_to(1, 12),
+        80..=96 => rng.from_to(13, 70),
+        _ => rng.from_to(71, MOST_NODES),
+    }
+}
+
+fn shape(rng: &mut Rng, n: usize) -> Draft {
+    match rng.below(9) {
+        0 => Draft::path(n, 1),
+        1 => Draft::star(n, 1),
+        2 => Draft::caterpillar(n.div_ceil(3), 2.min(n - 1), 1),
+        3 => Draft::grid(n.div_ceil(4), 4.min(n), 1),
+        4 if n > 1 => Draft::ring(n, 1),
+        5 => Draft::complete(n.min(20), 1),
+        _ => Draft::sprawl(rng, n),
+    }
+}
+
+/// A way to choose lengths: short ones tie, long ones come near the limit.
+fn lengths(rng: &mut Rng, draft: Draft) -> Draft {
+    let most = rng.pick(&[0, 0, 1, 1, 2, 3, 5, 9, 40, 1_000, 65_535]);
+    match rng.below(10) {
+        0 => draft.with_lengths(|_| 65_535),
+        1 => draft.with_lengths(|_| most),
+        _ => draft.with_lengths(|_| rng.from_to(0, most as usize) as u16),
+    }
+}
+
+/// A draft of n nodes with a shape, more links, parallels and lengths.
+pub fn draft(rng: &mut Rng, n: usize) -> Draft {
+    let mut draft = shape(rng, n);
+    let more = rng.pick(&[0, 0, 1, 2, n / 4, n, 2 * n]);
+    draft = draft.with_more(rng, more);
+    let parallels = rng.pick(&[0, 0, 0, 1, 2, n / 2]);
+    draft = draft.with_parallels(rng, parallels);
+    draft = lengths(rng, draft);
+    let withdrawn = rng.pick(&[0, 0, 1, 3]);
+    draft = draft.with_withdrawn(rng, withdrawn);
+    draft.links.truncate(MOST_LINKS);
+    if rng.chance(70) {
+        draft = draft.shuffled(rng);
+    }
+    if rng.chance(30) {
+        draft.root = rng.below(draft.n);
+    }
+    draft
+}
+
+/// An accepted network of any size.
+pub fn network(rng: &mut Rng) -> Rows {
+    let n = size(rng);
+    draft(rng, n).with_tree(rng)
+}
+
+/// An accepted network that every fault can be put into: at least four
+/// nodes, more links than a tree has, and two nodes below the root joined.
+pub fn rich_network(rng: &mut Rng) -> Rows {
+    let n = rng.from_to(4, 9);
+    let mut draft = Draft::sprawl(rng, n).with_more(rng, n);
+    draft = draft.join(1, 2, 1).join(2, 3, 1).join(0, 3, 1);
+    draft = draft.with_lengths(|_| rng.from_to(2, 9) as u16);
+    draft = draft.with_withdrawn(rng, 2).shuffled(rng);
+    draft.with_tree(rng)
+}
+
+/// A depth: the whole search, a small one, the largest, at times a wrong one.
+pub fn depth(rng: &mut Rng) -> u16 {
+    match rng.below(20) {
+        0..=8 => WHOLE,
+        9..=16 => rng.pick(&[0, 1, 1, 2, 3, 5]),
+        17 => DEEPEST,
+        18 => rng.from_to(0, DEEPEST as usize) as u16,
+        _ => rng.pick(&[DEEPEST, WHOLE, DEEPEST + 1, WHOLE - 1]),
+    }
+}
+
+/// Room around what is needed: exact, larger, at times too short.
+pub fn room(rng: &mut Rng, need: usize) -> usize {
+    match rng.below(10) {
+        0..=4 => need,
+        5..=7 => need + rng.pick(&[1, 3, 6, 7, 20]),
+        8 => need + rng.below(300),
+        _ => need.saturating_sub(rng.pick(&[1, 1, 7, 30])),
+    }
+}

@@ -1,0 +1,214 @@
+//! The swap table, from the definitions of crossing, candidate, cost and best.
+
+use crate::check::check;
+use crate::limits::*;
+use crate::network::Network;
+use crate::refusal::{refuse, Refusal, Why};
+use crate::tree::{PathLengths, Tree};
+
+/// The state of an entry. The value is the state's number.
+#[derive(Clone, Copy, PartialEq, Eq, Debug)]
+pub enum State {
+    Root = 0,
+    Swap = 1,
+    /// Links cross but none within the depth.
+    Beyond = 2,
+    Bridge = 3,
+}
+
+/// An entry: the state, the links and the costs for sum, incr, max.
+#[derive(Clone, Copy, PartialEq, Eq, Debug)]
+pub struct Entry {
+    pub state: State,
+    pub links: [u16; MEASURES],
+    pub costs: [u64; MEASURES],
+}
+
+impl Entry {
+    /// An entry of a state other than swap.
+    pub fn without_swap(state: State) -> Entry {
+        Entry {
+            state,
+            links: [NO_LINK; MEASURES],
+            costs: [0; MEASURES],
+        }
+    }
+
+    /// The entry as plain numbers, in the order of the row.
+    pub fn numbers(&self) -> [u64; ENTRY_WIDTH] {
+        let [s, i, m] = self.links.map(u64::from);
+        let [cs, ci, cm] = self.costs;
+        [self.state as u64, s, i, m, cs, ci, cm]
+    }
+
+    /// Whether the node of this entry belongs in the unprotected map.
+    pub fn unprotected(&self) -> bool {
+        matches!(self.state, State::Beyond | State::Bridge)
+    }
+}
+
+/// A crossing link with z, its end in T(x), and z', the other.
+#[derive(Clone, Copy)]
+pub struct Crossing {
+    pub link: usize,
+    pub inner: usize,
+    pub outer: usize,
+}
+
+/// The links that cross x: in service, not x's tree link, one end in T(x).
+pub fn crossings(net: &Network, tree: &Tree, x: usize) -> Vec<Crossing> {
+    let mut found = Vec::new();
+    for e in 0..net.m() {
+        let link = net.link(e);
+        if !link.in_service() || e == net.parents[x] as usize {
+            continue;
+        }
+        let [a, b] = link.ends.map(usize::from);
+        let (inner, outer) = match (tree.is_below(a, x), tree.is_below(b, x)) {
+            (true, false) => (a, b),
+            (false, true) => (b, a),
+            _ => continue,
+        };
+        found.push(Crossing {
+            link: e,
+            inner,
+            outer,
+        });
+    }
+    found
+}
+
+/// What the costs need of z alone, over u in T(x).
+#[derive(Clone, Copy)]
+struct Reach {
+    /// The t(u,z) added.
+    sum: u64,
+    /// The largest t(u,z) - d(u).
+    rise: i64,
+    /// The largest t(u,z).
+    far: u64,
+}
+
+fn reach(tree: &Tree, t: &PathLengths, below: &[usize], z: usize) -> Reach {
+    let mut reach = Reach {
+        sum: 0,
+        rise: i64::MIN,
+        far: 0,
+    };
+    for &u in below {
+        let length = t.between(z, u);
+        reach.sum += length;
+        reach.rise = reach.rise.max(length as i64 - tree.distance[u] as i64);
+        reach.far = reach.far.max(length);
+    }
+    reach
+}
+
+/// The costs of a candidate for sum, incr, max.
+/// With N(u) = t(u,z) + w + d(z') the last two terms are the same for every u.
+fn costs(reach: Reach, nodes: usize, beyond: u64) -> [u64; MEASURES] {
+    let incr = reach.rise + beyond as i64;
+    [
+        reach.sum + nodes as u64 * beyond,
+        u64::try_from(incr).expect("no route is shorter than the tree's"),
+        reach.far + beyond,
+    ]
+}
+
+/// Whether z is at most depth hops below x.
+fn within(tree: &Tree, depth: u16, x: usize, z: usize) -> bool {
+    depth == WHOLE || tree.hops[z] - tree.hops[x] <= depth as usize
+}
+
+/// A checked network with its tree and tree paths, ready to give entries.
+pub struct Search<'a> {
+    pub net: &'a Network<'a>,
+    pub tree: &'a Tree,
+    pub t: PathLengths,
+    pub depth: u16,
+}
+
+impl<'a> Search<'a> {
+    pub fn new(net: &'a Network<'a>, tree: &'a Tree, depth: u16) -> Search<'a> {
+        let t = PathLengths::of(net, tree);
+        Search {
+            net,
+            tree,
+            t,
+            depth,
+        }
+    }
+
+    /// The costs of each candidate of x, in link order.
+    pub fn priced(&self, x: usize, candidates: &[Crossing]) -> Vec<(usize, [u64; MEASURES])> {
+        let below = self.tree.below(x);
+        let mut reaches: Vec<Option<Reach>> = vec![None; self.net.n()];
+        let mut price = |c: &Crossing| {
+            let z = c.inner;
+            let known = reaches[z].unwrap_or_else(|| reach(self.tree, &self.t, &below, z));
+            reaches[z] = Some(known);
+            let w = u64::from(self.net.link(c.link).length);
+            let beyond = w + self.tree.distance[c.outer];
+            (c.link, costs(known, below.len(), beyond))
+        };
+        candidates.iter().map(&mut price).collect()
+    }
+
+    /// The entry of node x.
+    pub fn entry(&self, x: usize) -> Entry {
+        if self.net.is_root(x) {
+            return Entry::without_swap(State::Root);
+        }
+        let mut links = crossings(self.net, self.tree, x);
+        if links.is_empty() {
+            return Entry::without_swap(State::Bridge);
+        }
+        links.retain(|c| within(self.tree, self.depth, x, c.inner));
+        if links.is_empty() {
+            return Entry::without_swap(State::Beyond);
+        }
+        let priced = self.priced(x, &links);
+        let mut entry = Entry::without_swap(State::Swap);
+        for k in 0..MEASURES {
+            let (cost, link) = least(&priced, k);
+            entry.links[k] = link as u16;
+            entry.costs[k] = cost;
+        }
+        entry
+    }
+}
+
+/// The least cost under measure k, with the lowest link number that has it.
+fn least(priced: &[(usize, [u64; MEASURES])], k: usize) -> (u64, usize) {
+    let keys = priced.iter().map(|&(link, costs)| (costs[k], link));
+    keys.min().expect("there is a candidate")
+}
+
+/// The entries of all nodes of a checked network.
+pub fn entries(net: &Network, tree: &Tree, depth: u16) -> Vec<Entry> {
+    let search = Search::new(net, tree, depth);
+    (0..net.n()).map(|x| search.entry(x)).collect()
+}
+
+/// Stores the entry of node x.
+pub fn store(row: &mut [u64], x: usize, entry: &Entry) {
+    row[ENTRY_WIDTH * x..ENTRY_WIDTH * (x + 1)].copy_from_slice(&entry.numbers());
+}
+
+/// Refusal 10 where fewer than n whole entries are lent.
+pub fn check_room(n: usize, row: &[u64]) -> Result<(), Refusal> {
+    if row.len() / ENTRY_WIDTH < n {
+        return refuse(Why::Room, 0);
+    }
+    Ok(())
+}
+
+/// Writes the table into the first n entries of the row.
+pub fn table(net: &Network, depth: u16, row: &mut [u64]) -> Result<(), Refusal> {
+    let tree = check(net, depth)?;
+    check_room(net.n(), row)?;
+    for (x, entry) in entries(net, &tree, depth).iter().enumerate() {
+        store(row, x, entry);
+    }
+    Ok(())
+}
