@@ -57,19 +57,26 @@ fn verdict(call: &str, answer: Result<(), Refusal>) -> String {
 
 /// Numbers with a space before each.
 fn spaced<T: ToString>(numbers: &[T]) -> String {
-    numbers.iter().map(|w| format!(" {}", w.to_string())).collect()
+    numbers
+        .iter()
+        .map(|w| format!(" {}", w.to_string()))
+        .collect()
 }
 
 /// The entry lines of the first `count` entries.
 fn entry_lines(row: &[u64], count: usize) -> String {
     let entries = row.chunks_exact(ENTRY_WIDTH).take(count).enumerate();
-    entries.map(|(x, entry)| format!("{x}{}\n", spaced(entry))).collect()
+    entries
+        .map(|(x, entry)| format!("{x}{}\n", spaced(entry)))
+        .collect()
 }
 
 /// The link lines of the first `count` links.
 fn link_lines(row: &[u16], count: usize) -> String {
     let links = row.chunks_exact(LINK_WIDTH).take(count);
-    links.map(|link| format!("link{}\n", spaced(link))).collect()
+    links
+        .map(|link| format!("link{}\n", spaced(link)))
+        .collect()
 }
 
 fn byte_lines(bytes: &[u8]) -> String {

@@ -105,7 +105,9 @@ impl<'a> Faulty<'a> {
         let net = self.sound.lend();
         let x = rng.below(net.n());
         let m = net.m() as u16;
-        let strange: Vec<u16> = (0..m).filter(|&e| !net.link(e as usize).touches(x)).collect();
+        let strange: Vec<u16> = (0..m)
+            .filter(|&e| !net.link(e as usize).touches(x))
+            .collect();
         self.rows.parents[x] = match rng.below(4) {
             _ if net.is_root(x) => rng.pick(&[0, m - 1, m, NO_LINK - 1]),
             0 => rng.pick(&[m, m + 1, NO_LINK, NO_LINK - 1]),
@@ -127,7 +129,8 @@ impl<'a> Faulty<'a> {
     /// Two nodes below the root name one link between them.
     fn close_cycle(&mut self, rng: &mut Rng) {
         let net = self.sound.lend();
-        let closes = |e: &usize| net.link(*e).in_service() && !net.link(*e).touches(net.root as usize);
+        let closes =
+            |e: &usize| net.link(*e).in_service() && !net.link(*e).touches(net.root as usize);
         let links: Vec<usize> = (0..net.m()).filter(closes).collect();
         if links.is_empty() {
             return;
@@ -138,22 +141,23 @@ impl<'a> Faulty<'a> {
         }
     }
 
-    /// A link too short by one, or a tree link so long that another breaks.
+    /// A link outside the tree too short by one, or a tree link so long that
+    /// another breaks.
     fn break_shortness(&mut self, rng: &mut Rng) {
         let net = self.sound.lend();
         let tree = Tree::of(&net).expect("the network was sound");
-        let breaks = |e: &usize| net.link(*e).in_service() && least_length(&net, &tree, *e) > 0;
-        let links: Vec<usize> = (0..net.m()).filter(breaks).collect();
-        if links.is_empty() {
-            return;
+        let in_tree = |e: usize| net.parents.contains(&(e as u16));
+        let short = |e: usize| net.link(e).in_service() && least_length(&net, &tree, e) > 0;
+        let (inner, outer): (Vec<usize>, Vec<usize>) = (0..net.m())
+            .filter(|&e| in_tree(e) || short(e))
+            .partition(|&e| in_tree(e));
+        if !outer.is_empty() && rng.chance(80) {
+            let e = rng.pick(&outer);
+            let length = least_length(&net, &tree, e) as u16 - 1;
+            self.rows.links[LINK_WIDTH * e + 2] = length;
+        } else if !inner.is_empty() {
+            self.rows.links[LINK_WIDTH * rng.pick(&inner) + 2] = 65_535;
         }
-        let e = rng.pick(&links);
-        let spare = !net.parents.contains(&(e as u16));
-        self.rows.links[LINK_WIDTH * e + 2] = if spare {
-            least_length(&net, &tree, e) as u16 - 1
-        } else {
-            65_535
-        };
     }
 }
 

@@ -15,6 +15,7 @@ pub mod file_faults;
 pub mod harbour;
 pub mod limits;
 pub mod listing;
+pub mod mangle;
 pub mod map;
 pub mod named;
 pub mod network;

@@ -22,11 +22,11 @@ fn with_trees(drafts: Vec<(&'static str, Draft)>) -> Vec<Named> {
     drafts.into_iter().map(finish).collect()
 }
 
-/// The node below the root on a spur: the best for node 2 under sum is link 3,
-/// the best for node 1 is link 4.
+/// A path of four with two far links. Under sum the best for node 2 is link 3,
+/// and the best for node 1 above it is link 4.
 pub fn spur() -> Rows {
-    let draft = Draft::path(4, 0).join(0, 3, 31).join(0, 2, 32);
-    let lengths = [20, 1, 10, 31, 32];
+    let draft = Draft::path(4, 0).join(0, 3, 0).join(0, 2, 0);
+    let lengths = [20, 1, 10, 33, 34];
     draft
         .with_lengths(|e| lengths[e])
         .with_tree(&mut Rng::new(0))

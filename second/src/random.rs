@@ -18,8 +18,8 @@ fn shape(rng: &mut Rng, n: usize) -> Draft {
     match rng.below(9) {
         0 => Draft::path(n, 1),
         1 => Draft::star(n, 1),
-        2 => Draft::caterpillar(n.div_ceil(3), 2.min(n - 1), 1),
-        3 => Draft::grid(n.div_ceil(4), 4.min(n), 1),
+        2 => Draft::caterpillar((n / 3).max(1), 2.min(n - 1), 1),
+        3 => Draft::grid((n / 4).max(1), 4.min(n), 1),
         4 if n > 1 => Draft::ring(n, 1),
         5 => Draft::complete(n.min(20), 1),
         _ => Draft::sprawl(rng, n),

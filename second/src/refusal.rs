@@ -64,11 +64,7 @@ pub fn refuse<T>(why: Why, place: usize) -> Result<T, Refusal> {
 }
 
 /// Refuses at the lowest of the first `count` places that is bad, if one is.
-pub fn refuse_lowest(
-    why: Why,
-    count: usize,
-    bad: impl Fn(usize) -> bool,
-) -> Result<(), Refusal> {
+pub fn refuse_lowest(why: Why, count: usize, bad: impl Fn(usize) -> bool) -> Result<(), Refusal> {
     match (0..count).find(|&place| bad(place)) {
         Some(place) => refuse(why, place),
         None => Ok(()),

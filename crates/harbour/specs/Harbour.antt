@@ -137,7 +137,6 @@ pub data Case : Type 0 where
   _gives_ : Ask → List ℕ → Case
 
 infix 5 _gives_
-
 -- P1 to P12.
 unfoldable pub cases : List Case
 cases =

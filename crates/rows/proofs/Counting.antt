@@ -1,0 +1,61 @@
+-- Sums and largest values: bounds, and sums and maxima of equal values. Assumes nothing.
+use mathlib.Core.Path.{_≡_, refl, sym, ap, ap₂, _∙_}
+use mathlib.Core.Bool.{Bool, true, false, cond}
+use Prim.Native.Nat.{ℕ, zero, suc, _+_, _*_, _<_, _≤_, max}
+use native.Mathlib.Nat.{not-suc-le-zero, suc-mul}
+use native.Mathlib.Omega.{arith}
+use lib.Dec.{eqb}
+use borrow.Author.Tests.{eqb-true, eqb-false}
+use Rattle.rows.specs.Count.{sumTo, maxTo, someTo, onlyIf}
+use Rattle.rows.proofs.Tests.{lastly}
+
+-- no largest value passes a bound of all values, and none is below one of them
+pub max-bound : (f : ℕ → ℕ) (k b : ℕ) → ((j : ℕ) → j < k → f j ≤ b) → maxTo f k ≤ b
+unfolding maxTo
+max-bound f zero b h = omega arith
+max-bound f (suc k) b h = omega (arith, max-bound f k b (λ j l. h j (omega arith)), h k (omega arith))
+
+pub max-reach : (f : ℕ → ℕ) (k j : ℕ) → j < k → f j ≤ maxTo f k
+unfolding maxTo
+max-reach f zero j l = absurd (not-suc-le-zero l)
+max-reach f (suc k) j l =
+    lastly (λ j. f j ≤ max (maxTo f k) (f k)) k (λ i m. omega (arith, max-reach f k i m)) (omega arith) j l
+
+-- a sum of values of which each is at most b
+pub sum-bound : (f : ℕ → ℕ) (k b : ℕ) → ((j : ℕ) → j < k → f j ≤ b) → sumTo f k ≤ k * b
+unfolding sumTo
+sum-bound f zero b h = omega arith
+sum-bound f (suc k) b h =
+    omega (arith, sum-bound f k b (λ j l. h j (omega arith)), h k (omega arith), suc-mul k b)
+
+-- one place at which the value is 0 is not counted
+pub sum-but-one : (f : ℕ → ℕ) (k b z : ℕ) → z < k → f z ≡ 0 → ((j : ℕ) → j < k → f j ≤ b) → sumTo f k + b ≤ k * b
+unfolding sumTo
+sum-but-one f zero b z l e h = absurd (not-suc-le-zero l)
+sum-but-one f (suc k) b z l e h = go (sum-but-one f k b z) (eqb z k) refl
+  where
+    go : (z < k → f z ≡ 0 → ((j : ℕ) → j < k → f j ≤ b) → sumTo f k + b ≤ k * b) → (c : Bool) → eqb z k ≡ c → sumTo f (suc k) + b ≤ suc k * b
+    go ih true q =
+        omega (arith, sum-bound f k b (λ j m. h j (omega arith)), ap f (eqb-true z k q), suc-mul k b)
+    go ih false q =
+        omega (arith, ih (omega (arith, eqb-false z k q)) e (λ j m. h j (omega arith)), h k (omega arith), suc-mul k b)
+
+pub sum-cong : (f g : ℕ → ℕ) (k : ℕ) → ((j : ℕ) → j < k → f j ≡ g j) → sumTo f k ≡ sumTo g k
+unfolding sumTo
+sum-cong f g zero h = refl
+sum-cong f g (suc k) h = ap₂ _+_ (sum-cong f g k (λ j l. h j (omega arith))) (h k (omega arith))
+
+pub max-cong : (f g : ℕ → ℕ) (k : ℕ) → ((j : ℕ) → j < k → f j ≡ g j) → maxTo f k ≡ maxTo g k
+unfolding maxTo
+max-cong f g zero h = refl
+max-cong f g (suc k) h = ap₂ max (max-cong f g k (λ j l. h j (omega arith))) (h k (omega arith))
+
+pub some-cong : (p q : ℕ → Bool) (k : ℕ) → ((j : ℕ) → j < k → p j ≡ q j) → someTo p k ≡ someTo q k
+unfolding someTo
+some-cong p q zero h = refl
+some-cong p q (suc k) h = rw (some-cong p q k (λ j l. h j (omega arith)), h k (omega arith))
+
+pub only-small : (b : Bool) (v w : ℕ) → (b ≡ true → v ≤ w) → onlyIf b v ≤ w
+unfolding onlyIf
+only-small true v w h = h refl
+only-small false v w h = omega arith

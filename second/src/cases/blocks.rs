@@ -1,0 +1,125 @@
+//! Cases of op 8: one block, and the kind, number and used count asked.
+
+use crate::block::{right_check, seal};
+use crate::file::{slots, Slot};
+use crate::file_faults::sound_file;
+use crate::harbour::harbour;
+use crate::limits::*;
+use crate::mangle::{mangle, MANGLES};
+use crate::named::{large, small};
+use crate::network::Rows;
+use crate::probe::*;
+use crate::random;
+use crate::rng::Rng;
+
+/// The blocks of a network's file with what must be asked of each.
+fn blocks(rows: &Rows) -> Vec<(Vec<u8>, [u16; 3])> {
+    let net = rows.lend();
+    let file = sound_file(rows, WHOLE).bytes;
+    let slots = slots(net.n(), net.m());
+    let parts = file.chunks(BLOCK).zip(&slots).enumerate();
+    parts
+        .map(|(k, (part, slot))| (part.to_vec(), asked(k, slot)))
+        .collect()
+}
+
+fn asked(k: usize, slot: &Slot) -> [u16; 3] {
+    [u16::from(slot.kind), k as u16, slot.used as u16]
+}
+
+fn case(block: &[u8], asked: [u16; 3]) -> Case {
+    Case::over_bytes(PAYLOAD_OF, block, asked)
+}
+
+/// All fixed cases of the block reader.
+pub fn fixed() -> Vec<Case> {
+    let mut cases = Vec::new();
+    for named in small() {
+        let sound = blocks(&named.rows);
+        cases.extend(sound.iter().map(|(block, asked)| case(block, *asked)));
+    }
+    let most = blocks(&large()[3].rows);
+    cases.extend(most.iter().map(|(block, asked)| case(block, *asked)));
+    for (block, asked) in blocks(&harbour()) {
+        cases.extend(wrong_asks(&block, asked));
+        cases.extend(wrong_lengths(&block, asked));
+        cases.extend(wrong_bytes(&block, asked));
+    }
+    cases.extend(check_of_zero());
+    cases
+}
+
+/// Another kind, number or used count asked, of a block right or spoiled.
+fn wrong_asks(block: &[u8], [kind, number, used]: [u16; 3]) -> Vec<Case> {
+    let kinds = [0x48, 0x4C, 0x54, 0, 1, 0x4801, 256 + kind, 65_535];
+    let numbers = [0, 1, 2, 3, 255, 256 + number, 65_535];
+    let counts = [0, 1, 2, 5, 7, 18, 19, 63, 64, 256 + used, 65_535];
+    let asks: Vec<[u16; 3]> = (kinds.map(|k| [k, number, used]).into_iter())
+        .chain(numbers.map(|b| [kind, b, used]))
+        .chain(counts.map(|c| [kind, number, c]))
+        .collect();
+    let mut spoiled = block.to_vec();
+    spoiled[7] ^= 1;
+    let mut cases: Vec<Case> = asks.iter().map(|&ask| case(block, ask)).collect();
+    cases.extend(asks.iter().map(|&ask| case(&spoiled, ask)));
+    cases.extend(asks.iter().map(|&ask| case(&block[..510], ask)));
+    cases
+}
+
+/// Lengths other than a block's.
+fn wrong_lengths(block: &[u8], asked: [u16; 3]) -> Vec<Case> {
+    let lengths = [0, 1, 7, 8, 511, 513, 1_024, 33_000];
+    let sized = |&length: &usize| {
+        let mut bytes = block.to_vec();
+        bytes.resize(length, 0);
+        case(&bytes, asked)
+    };
+    lengths.iter().map(sized).collect()
+}
+
+/// Every byte before the payload, every 5th byte of it, changed; with and
+/// without a corrected check. A block of zeros, and one of ones.
+fn wrong_bytes(block: &[u8], asked: [u16; 3]) -> Vec<Case> {
+    let mut cases = Vec::new();
+    for at in (0..HEAD)
+        .chain((HEAD..HEAD + 150).step_by(1))
+        .chain((158..BLOCK).step_by(5))
+    {
+        let mut bytes = block.to_vec();
+        bytes[at] ^= 0x11;
+        cases.push(case(&bytes, asked));
+        seal(&mut bytes);
+        cases.push(case(&bytes, asked));
+    }
+    cases.push(case(&[0; BLOCK], asked));
+    cases.push(case(&[0xFF; BLOCK], asked));
+    cases
+}
+
+/// A link block whose check is 0: stored as it is, and as FFFF.
+fn check_of_zero() -> Vec<Case> {
+    let (mut block, asked) = blocks(&harbour()).swap_remove(1);
+    block[HEAD + 4..HEAD + 6].fill(0);
+    let length = right_check(&block);
+    block[HEAD + 4..HEAD + 6].copy_from_slice(&length.to_be_bytes());
+    seal(&mut block);
+    let zero = case(&block, asked);
+    block[6..8].fill(0xFF);
+    vec![zero, case(&block, asked)]
+}
+
+/// A block of a random file, damaged or not, asked rightly or not.
+pub fn random(rng: &mut Rng) -> Case {
+    let rows = random::rich_network(rng);
+    let sound = blocks(&rows);
+    let (mut block, mut asked) = sound[rng.below(sound.len())].clone();
+    if rng.chance(60) {
+        let (way, _) = rng.pick(&MANGLES);
+        let corrected = rng.chance(60);
+        mangle(rng, &mut block, way, corrected);
+    }
+    if rng.chance(25) {
+        asked[rng.below(3)] = rng.pick(&[0, 1, 2, 0x48, 0x4C, 0x54, 18, 63]);
+    }
+    case(&block, asked)
+}

@@ -1,0 +1,53 @@
+//! How an input ends. The probe stops at `unknown`, at `too long` and inside
+//! a case, so an input has one of these at most, and at its end.
+
+use crate::harbour::harbour;
+use crate::limits::*;
+use crate::probe::*;
+
+/// The number of endings. The seed modulo this number chooses one.
+pub const ENDINGS: u64 = 16;
+
+/// The ending of a seed.
+pub fn ending(seed: u64) -> Vec<u8> {
+    let whole = Case::over(CHECK, &harbour(), WHOLE, 0).encode();
+    let file = Case::over_bytes(READ, &[BYTE_FILL; 9], [0; 3]).encode();
+    match seed % ENDINGS {
+        0 => Vec::new(),
+        1 => whole[..1].to_vec(),
+        2 => whole[..2 * HEAD_WORDS - 1].to_vec(),
+        3 => whole[..2 * HEAD_WORDS].to_vec(),
+        4 => whole[..whole.len() - 1].to_vec(),
+        5 => file[..file.len() - 1].to_vec(),
+        6 => stops(&whole, |head| head.op = 0),
+        7 => stops(&whole, |head| head.op = PAYLOAD_OF + 1),
+        8 => stops(&whole, |head| {
+            head.op = 65_535;
+            head.parents = PROBE_PARENTS + 1;
+        }),
+        9 => stops(&whole, |head| head.parents = PROBE_PARENTS + 1),
+        10 => stops(&whole, |head| head.rest = PROBE_LINKS + 1),
+        11 => stops(&whole, |head| head.room = PROBE_ROOM + 1),
+        12 => stops(&whole, |head| read_rooms(head, [8_401, 0, 0])),
+        13 => stops(&whole, |head| read_rooms(head, [0, 601, 0])),
+        14 => stops(&whole, |head| read_rooms(head, [0, 0, 40_001])),
+        _ => stops(&whole, |head| {
+            head.op = PAYLOAD_OF;
+            head.rest = PROBE_BYTES + 1;
+        }),
+    }
+}
+
+fn read_rooms(head: &mut Head, rooms: [u16; 3]) {
+    head.op = READ;
+    head.abc = rooms;
+}
+
+/// A head that stops the probe, with a sound case behind it that is not read.
+fn stops(whole: &[u8], change: impl Fn(&mut Head)) -> Vec<u8> {
+    let mut head = Case::over(CHECK, &harbour(), WHOLE, 0).head();
+    change(&mut head);
+    let mut out = head.encode();
+    out.extend(whole);
+    out
+}

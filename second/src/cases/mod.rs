@@ -1,0 +1,63 @@
+//! The case maker: for each op the fixed cases, then random ones, then an
+//! ending that the seed chooses.
+
+mod blocks;
+mod changes;
+mod endings;
+mod files;
+mod networks;
+
+use crate::probe::*;
+use crate::rng::Rng;
+
+pub use endings::ENDINGS;
+
+/// The fixed cases of an op.
+pub fn fixed(op: u16) -> Vec<Case> {
+    match op {
+        CHECK | TABLE | MAP | WRITE => networks::fixed(op),
+        CHANGE | CHANGE_UNFILLED => changes::fixed(op),
+        READ => files::fixed(),
+        _ => blocks::fixed(),
+    }
+}
+
+/// A random case of an op.
+pub fn random(rng: &mut Rng, op: u16) -> Case {
+    match op {
+        CHECK | TABLE | MAP | WRITE => networks::random(rng, op),
+        CHANGE | CHANGE_UNFILLED => changes::random(rng, op),
+        READ => files::random(rng),
+        _ => blocks::random(rng),
+    }
+}
+
+/// The probe's input: fixed cases for each op, `count` random ones over the
+/// ops in turn, and the ending of the seed. The same arguments give the same
+/// bytes.
+pub fn input(ops: &[u16], seed: u64, count: usize) -> Vec<u8> {
+    let mut out = Vec::new();
+    for &op in ops {
+        fixed(op).iter().for_each(|case| out.extend(case.encode()));
+    }
+    let mut rng = Rng::new(seed);
+    for i in 0..count {
+        out.extend(random(&mut rng, ops[i % ops.len()]).encode());
+    }
+    out.extend(endings::ending(seed));
+    out
+}
+
+/// The ops that a list such as `1,3-5` names, or none where it is no list.
+pub fn ops(list: &str) -> Option<Vec<u16>> {
+    let mut ops = Vec::new();
+    for part in list.split(',') {
+        let (low, high) = part.split_once('-').unwrap_or((part, part));
+        let (low, high): (u16, u16) = (low.parse().ok()?, high.parse().ok()?);
+        if !is_op(low) || !is_op(high) || low > high {
+            return None;
+        }
+        ops.extend(low..=high);
+    }
+    Some(ops)
+}

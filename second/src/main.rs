@@ -1,0 +1,79 @@
+//! The second program's command line.
+
+use second::answers::answers;
+use second::cases::{input, ops};
+use second::file::write;
+use second::harbour::harbour;
+use second::limits::{LONGEST_LISTED, WHOLE};
+use second::listing::listing;
+use second::samples::samples;
+use std::env::args;
+use std::io::{stdin, stdout, Read, Result, Write};
+use std::path::Path;
+use std::process::ExitCode;
+
+const USAGE: &str =
+    "usage: second list | harbour | expect | cases OPS SEED COUNT | files DIR SEED COUNT";
+
+fn main() -> ExitCode {
+    let words: Vec<String> = args().skip(1).collect();
+    let words: Vec<&str> = words.iter().map(String::as_str).collect();
+    match run(&words) {
+        Some(Ok(())) => ExitCode::SUCCESS,
+        Some(Err(error)) => {
+            eprintln!("second: {error}");
+            ExitCode::FAILURE
+        }
+        None => {
+            eprintln!("{USAGE}");
+            ExitCode::from(2)
+        }
+    }
+}
+
+/// Runs a command; none where the words are no command.
+fn run(words: &[&str]) -> Option<Result<()>> {
+    match words {
+        ["list"] => Some(answer_input(listing)),
+        ["expect"] => Some(answer_input(answers)),
+        ["harbour"] => Some(print(&harbour_file())),
+        ["cases", list, seed, count] => {
+            let bytes = input(&ops(list)?, seed.parse().ok()?, count.parse().ok()?);
+            Some(print(&bytes))
+        }
+        ["files", dir, seed, count] => {
+            let (seed, count) = (seed.parse().ok()?, count.parse().ok()?);
+            Some(write_files(Path::new(dir), seed, count))
+        }
+        _ => None,
+    }
+}
+
+fn harbour_file() -> Vec<u8> {
+    let mut room = vec![0; LONGEST_LISTED];
+    let length = write(&harbour().lend(), WHOLE, &mut room).expect("Harbour is sound");
+    room.truncate(length);
+    room
+}
+
+fn print(bytes: &[u8]) -> Result<()> {
+    let mut out = stdout().lock();
+    out.write_all(bytes)?;
+    out.flush()
+}
+
+/// Prints what the function says of the standard input.
+fn answer_input(function: fn(&[u8]) -> String) -> Result<()> {
+    let mut bytes = Vec::new();
+    stdin().lock().read_to_end(&mut bytes)?;
+    print(function(&bytes).as_bytes())
+}
+
+fn write_files(dir: &Path, seed: u64, count: usize) -> Result<()> {
+    std::fs::create_dir_all(dir)?;
+    for (i, sample) in samples(seed, count).iter().enumerate() {
+        let name = format!("{:04}-{}.swap", i + 1, sample.label.to_lowercase());
+        std::fs::write(dir.join(name), &sample.bytes)?;
+    }
+    Ok(())
+}
