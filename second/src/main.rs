@@ -72,7 +72,7 @@ fn answer_input(function: fn(&[u8]) -> String) -> Result<()> {
 fn write_files(dir: &Path, seed: u64, count: usize) -> Result<()> {
     std::fs::create_dir_all(dir)?;
     for (i, sample) in samples(seed, count).iter().enumerate() {
-        let name = format!("{:04}-{}.swap", i + 1, sample.label.to_lowercase());
+        let name = format!("{:04}-{}.swap", i + 1, sample.label);
         std::fs::write(dir.join(name), &sample.bytes)?;
     }
     Ok(())

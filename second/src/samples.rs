@@ -1,6 +1,6 @@
 //! Sample stored files for comparing listings.
 
-use crate::file_faults::{damaged, sound_file, FILE_FAULTS};
+use crate::file_faults::{damaged, sound_file, FileFault, FILE_FAULTS};
 use crate::harbour::harbour;
 use crate::limits::*;
 use crate::mangle::{mangle, MANGLES};
@@ -70,14 +70,27 @@ fn faulty(rng: &mut Rng) -> Vec<Sample> {
         for _ in 0..2 {
             let sound = random::rich_network(rng);
             let bytes = damaged(rng, &sound, WHOLE, &[one]).bytes;
-            list.push(sample(format!("{one:?}"), bytes));
+            list.push(sample(label_of(one), bytes));
         }
         let two = rng.pick(&FILE_FAULTS);
         let sound = random::rich_network(rng);
         let bytes = damaged(rng, &sound, WHOLE, &[one, two]).bytes;
-        list.push(sample(format!("{one:?}-{two:?}"), bytes));
+        let label = format!("{}-and-{}", label_of(one), label_of(two));
+        list.push(sample(label, bytes));
     }
     list
+}
+
+/// The fault's name in small letters, its words joined by a dash.
+fn label_of(fault: FileFault) -> String {
+    let mut label = String::new();
+    for letter in format!("{fault:?}").chars() {
+        if letter.is_uppercase() && !label.is_empty() {
+            label.push('-');
+        }
+        label.push(letter.to_ascii_lowercase());
+    }
+    label
 }
 
 /// A file damaged blindly, the check corrected in every second one.

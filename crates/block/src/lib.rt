@@ -1,1 +1,1 @@
-// block
+// A block of the stored form. The definitions stand in specs/.

@@ -1,1 +1,1 @@
-// change
+// The change of one link. The definitions stand in specs/.

@@ -1,12 +1,16 @@
 -- P1 to P12 of the Harbour case hold: one theorem that the checker computes. Assumes nothing.
 use mathlib.Core.Path.{_≡_, refl}
 use mathlib.Core.Bool.{true}
+use mathlib.Core.List.{List, [], _∷_}
+use Rattle.rows.proofs.Tests.{and-left, and-right}
+use Rattle.rows.proofs.Listed.{same-equal}
+use Rattle.harbour.specs.Harbour.{Case, _gives_}
 use Rattle.edition.specs.Refusals.{numberOf}
 use Rattle.edition.specs.Entries.{entryRow}
 use Rattle.rows.specs.Count.{sumTo, maxTo, someTo, rowsTo, onlyIf}
 use Rattle.rows.specs.First.{beats, bestTo, firstTo, foundOr, refusedAt, refuseAt, refuseIf, firstly}
 use Rattle.rows.specs.Lists.{has, upTo, firstOf, total, same}
-use Rattle.network.specs.Network.{linkIn, netOf, inService, touches, otherEnd}
+use Rattle.network.specs.Network.{fieldIn, linkIn, netOf, inService, touches, otherEnd}
 use Rattle.network.specs.Records.{badNodes, badLinks, badRoot, badDepth, sizeVerdict, badEnds, badMark, unfit, badParent}
 use Rattle.tree.specs.Tree.{treeOf, climb, route, arrives, hasRoute, dist, under, hops, wayUp, meet, apart, onPath}
 use Rattle.sound.specs.Sound.{noRoute, short, notShort, recordVerdict, netVerdict}
@@ -18,5 +22,19 @@ use Rattle.change.specs.Change.{isParent, breaks, changeVerdict, setLink, stand
 use Rattle.harbour.specs.Harbour.{links, parents, at, harbour, alone, rootEntry, bridge, one, two, three, right, wrong, nine, linksSeven, linksNine, twoSeven, oneNine, twoNine, said, room, after, answer, cases, holds}
 
 pub harbour-cases : holds cases ≡ true
-unfolding numberOf entryRow sumTo maxTo someTo rowsTo onlyIf beats bestTo firstTo foundOr refusedAt refuseAt refuseIf firstly has upTo firstOf total same linkIn netOf inService touches otherEnd badNodes badLinks badRoot badDepth sizeVerdict badEnds badMark unfit badParent treeOf climb route arrives hasRoute dist under hops wayUp meet apart onPath noRoute short notShort recordVerdict netVerdict lower upper crosses within candidate newDist inside cost costOf before bestSwap crossed saved stateBelow state priced swapOf entry table tableVerdict tableRow unprotected word mapOf ones lowest mapVerdict mapRow isParent breaks changeVerdict setLink standing mendedAt mended changed links parents at harbour alone rootEntry bridge one two three right wrong nine linksSeven linksNine twoSeven oneNine twoNine said room after answer cases holds
+unfolding numberOf entryRow sumTo maxTo someTo rowsTo onlyIf beats bestTo firstTo foundOr refusedAt refuseAt refuseIf firstly has upTo firstOf total same fieldIn linkIn netOf inService touches otherEnd badNodes badLinks badRoot badDepth sizeVerdict badEnds badMark unfit badParent treeOf climb route arrives hasRoute dist under hops wayUp meet apart onPath noRoute short notShort recordVerdict netVerdict lower upper crosses within candidate newDist inside cost costOf before bestSwap crossed saved stateBelow state priced swapOf entry table tableVerdict tableRow unprotected word mapOf ones lowest mapVerdict mapRow isParent breaks changeVerdict setLink standing mendedAt mended changed links parents at harbour alone rootEntry bridge one two three right wrong nine linksSeven linksNine twoSeven oneNine twoNine said room after answer cases holds
 harbour-cases = refl
+
+-- each case as an equation, to be cited by what the promises say
+pub Each : List Case → Type 0
+Each [] = Unit {0}
+Each ((q gives a) ∷ rest) = (answer q ≡ a) × Each rest
+
+each : (cs : List Case) → holds cs ≡ true → Each cs
+unfolding holds Each
+each [] h = tt
+each ((q gives a) ∷ rest) h =
+    (same-equal (answer q) a (and-left (same (answer q) a) (holds rest) h), each rest (and-right (same (answer q) a) (holds rest) h))
+
+pub harbour-each : Each cases
+harbour-each = each cases harbour-cases

@@ -1,1 +1,1 @@
-// harbour
+// The Harbour case of document 01. Its table stands in specs/, its theorem in proofs/.

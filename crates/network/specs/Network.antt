@@ -7,6 +7,7 @@ use lib.Dec.{eqb, ltb}
 use lib.ListN.{length, getD}
 use Rattle.edition.specs.declared.Search.{Search}
 use Rattle.edition.specs.Limits.{noLink, linkWidth, served}
+use Rattle.rows.specs.Count.{onlyIf}
 use Rattle.network.specs.declared.Link.{Link}
 
 -- n nodes and m links; the record of each link, the parent link of each node; root and depth.
@@ -21,21 +22,14 @@ pub record Net : Type 0 where
 abbrev pub linksIn : List ℕ → ℕ
 linksIn row = length row / linkWidth
 
--- What stands for a link that does not exist.
-abbrev pub linkless : Link
-linkless = record { first = 0; second = 0; length = 0; mark = 0 }
+-- Number i of the record of link e in a row; 0 where there is no such link.
+unfoldable pub fieldIn : List ℕ → ℕ → ℕ → ℕ
+fieldIn row e i = onlyIf (ltb e (linksIn row)) (getD row (e * linkWidth + i) 0)
 
--- The record of link e in a row: two ends, length and service mark.
+-- The record of link e: two ends, length and service mark.
 unfoldable pub linkIn : List ℕ → ℕ → Link
 linkIn row e =
-    let it : Link =
-    record {
-      first = getD row (e * linkWidth) 0;
-      second = getD row (e * linkWidth + 1) 0;
-      length = getD row (e * linkWidth + 2) 0;
-      mark = getD row (e * linkWidth + 3) 0;
-    } in
-    cond (ltb e (linksIn row)) it linkless
+    record { first = fieldIn row e 0; second = fieldIn row e 1; length = fieldIn row e 2; mark = fieldIn row e 3 }
 
 -- The network of lent rows: n is the length of the row of parents, m that of the row of links.
 unfoldable pub netOf : List ℕ → List ℕ → Search → Net

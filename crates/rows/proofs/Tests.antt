@@ -23,6 +23,11 @@ pub or-false : (a b : Bool) → (a || b) ≡ false → (a ≡ false) × (b ≡ f
 or-false true b h = clash refl h
 or-false false b h = (refl, h)
 
+pub or3-false : (a b c : Bool) → (a || b || c) ≡ false → (a ≡ false) × (b ≡ false) × (c ≡ false)
+or3-false true b c h = clash refl h
+or3-false false true c h = clash refl h
+or3-false false false c h = (refl, refl, h)
+
 pub or-right : (a b : Bool) → b ≡ true → (a || b) ≡ true
 or-right true b h = refl
 or-right false b h = h

@@ -17,14 +17,14 @@ pub record Tree : Type 0 where
   pub up : ℕ → ℕ
   pub rise : ℕ → ℕ
 
--- Each node but the root names its parent link; the other end is its parent. The root has no way up.
+-- Each node but the root names its parent link; the other end is its parent. The root has no way up: it stays where it is.
 unfoldable pub treeOf : Net → Tree
 treeOf g =
     record {
       size = g .nodes;
       root = g .search .root;
       link = g .parent;
-      up = λ u. otherEnd (g .link (g .parent u)) u;
+      up = λ u. let p = otherEnd (g .link (g .parent u)) u in cond (eqb u (g .search .root)) u p;
       rise = λ u. let w = g .link (g .parent u) .length in cond (eqb u (g .search .root)) 0 w;
     }
 

@@ -17,7 +17,7 @@ pub fn need(op: u16, rows: &Rows) -> usize {
     match op {
         TABLE | CHANGE | CHANGE_UNFILLED => ENTRY_WIDTH * net.n(),
         MAP => MAP_WORDS,
-        WRITE => file_length(net.n(), net.m()).min(PROBE_ROOM - PAYLOAD),
+        WRITE => file_length(net.n(), net.m()),
         _ => 0,
     }
 }
@@ -96,6 +96,7 @@ fn faulty(op: u16) -> Vec<Case> {
         }
     }
     cases.extend(cycles().iter().map(|rows| exact(op, rows, WHOLE)));
+    cases.extend(wrong_parents().iter().map(|rows| exact(op, rows, WHOLE)));
     cases
 }
 
@@ -128,6 +129,29 @@ fn cycles() -> Vec<Rows> {
         rows(&[NO_LINK, 1, 2, 5, 3, 4], 0),
         rows(&[NO_LINK, 0, 2, 5, 3, 4], 3),
         rows(&[NO_LINK, 0, 1, 3, 3, 4], 65_535),
+    ]
+}
+
+/// Harbour with one parent link wrong: the root's, no link, withdrawn, not
+/// touching the node; and with the root elsewhere.
+fn wrong_parents() -> Vec<Rows> {
+    let named = |node: usize, link: u16| {
+        let mut rows = harbour();
+        rows.parents[node] = link;
+        rows
+    };
+    let mut withdrawn = harbour();
+    withdrawn.links[LINK_WIDTH * 6 + 3] = WITHDRAWN;
+    let mut elsewhere = harbour();
+    elsewhere.root = 4;
+    vec![
+        named(0, 0),
+        named(0, 7),
+        named(1, NO_LINK),
+        named(4, 7),
+        named(4, 0),
+        withdrawn,
+        elsewhere,
     ]
 }
 

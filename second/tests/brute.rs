@@ -1,0 +1,150 @@
+//! The table, the map and the change against definitions walked plainly, on
+//! many small networks.
+
+mod common;
+#[path = "common/plain.rs"]
+mod plain;
+
+use second::change::{change, Change};
+use second::map::map;
+use second::network::Rows;
+use second::random;
+use second::rng::Rng;
+use second::table::table;
+
+const DEPTHS: [u16; 5] = [65_535, 0, 1, 2, 510];
+
+fn small_network(rng: &mut Rng) -> Rows {
+    let n = rng.from_to(1, 11);
+    random::draft(rng, n).with_tree(rng)
+}
+
+#[test]
+fn the_plain_definitions_give_harbour() {
+    let harbour = common::harbour();
+    assert_eq!(plain::table(&harbour, 65_535), common::harbour_table());
+}
+
+/// All four states and costs of 0 must have been met.
+#[test]
+fn tables_are_equal() {
+    let mut rng = Rng::new(31);
+    let mut states = [0; 4];
+    let mut free = 0;
+    for _ in 0..6_000 {
+        let rows = small_network(&mut rng);
+        let depth = rng.pick(&DEPTHS);
+        let mut row = vec![7; 7 * rows.parents.len()];
+        table(&rows.lend(), depth, &mut row).unwrap();
+        assert_eq!(row, plain::table(&rows, depth), "{rows:?} at depth {depth}");
+        for entry in row.chunks(7) {
+            states[entry[0] as usize] += 1;
+            free += usize::from(entry[0] == 1 && entry[4..] == [0; 3]);
+        }
+    }
+    assert!(states.iter().all(|&count| count > 300), "{states:?}");
+    assert!(free > 100, "{free}");
+}
+
+#[test]
+fn maps_are_equal() {
+    let mut rng = Rng::new(32);
+    for _ in 0..300 {
+        let rows = small_network(&mut rng);
+        let depth = rng.pick(&DEPTHS);
+        let map = map(&rows.lend(), depth, &mut [0; 8]).unwrap();
+        let entries = plain::table(&rows, depth);
+        let open: Vec<usize> = (0..rows.parents.len())
+            .filter(|&x| entries[7 * x] >= 2)
+            .collect();
+        let bits: u64 = open.iter().map(|&x| 1 << x).sum();
+        assert_eq!(map.words, [bits, 0, 0, 0, 0, 0, 0, 0]);
+        assert_eq!(map.count, open.len());
+        assert_eq!(map.lowest, open.first().map_or(65_535, |&x| x as u16));
+    }
+}
+
+/// The nodes on the tree path between two nodes, but for where routes meet.
+fn path(rows: &Rows, a: usize, b: usize) -> Vec<usize> {
+    let (up, down) = (plain::route(rows, a), plain::route(rows, b));
+    let nodes = 0..rows.parents.len();
+    nodes
+        .filter(|x| up.contains(x) != down.contains(x))
+        .collect()
+}
+
+/// The verdict of a change on a sound network, from the definitions.
+fn verdict(rows: &Rows, wanted: &Change) -> Result<(), (u16, usize)> {
+    let e = wanted.link as usize;
+    if e >= plain::links(rows) {
+        return Err((11, 0));
+    }
+    if wanted.mark > 1 {
+        return Err((6, e));
+    }
+    if rows.parents.contains(&wanted.link) {
+        return Err((12, e));
+    }
+    let (a, b, _, _) = plain::link(rows, e);
+    let apart = plain::d(rows, a).abs_diff(plain::d(rows, b));
+    if wanted.mark == 1 && u64::from(wanted.length) < apart {
+        return Err((13, e));
+    }
+    Ok(())
+}
+
+/// A random change on a row that is all 7: the path's entries are those of
+/// the changed network, and no other entry needed writing.
+#[test]
+fn changes_are_equal() {
+    let mut rng = Rng::new(33);
+    let mut verdicts = [0; 14];
+    for _ in 0..3_000 {
+        let before = small_network(&mut rng);
+        let depth = rng.pick(&DEPTHS);
+        let m = plain::links(&before);
+        let wanted = Change {
+            link: rng.below(m + 2) as u16,
+            mark: rng.pick(&[0, 1, 1, 1, 2]),
+            length: rng.pick(&[0, 1, 2, 3, 5, 9, 65_535]),
+        };
+        let right = verdict(&before, &wanted);
+        let mut rows = before.clone();
+        let mut row = vec![7; 7 * rows.parents.len()];
+        let answer = common::told(change(&mut rows, depth, &mut row, &wanted));
+        assert_eq!(answer, right, "{before:?} {wanted:?}");
+        verdicts[right.map_or_else(|(number, _)| number as usize, |()| 0)] += 1;
+        if right.is_ok() {
+            check_changed(&before, &rows, depth, &row, &wanted);
+        } else {
+            assert_eq!(
+                (rows, row),
+                (before.clone(), vec![7; 7 * before.parents.len()])
+            );
+        }
+    }
+    assert!(
+        [0, 6, 11, 12, 13].iter().all(|&k| verdicts[k] > 100),
+        "{verdicts:?}"
+    );
+}
+
+fn check_changed(before: &Rows, after: &Rows, depth: u16, row: &[u64], wanted: &Change) {
+    let e = wanted.link as usize;
+    let mut links = before.links.clone();
+    links[4 * e + 2] = wanted.length;
+    links[4 * e + 3] = wanted.mark;
+    assert_eq!((&after.links, &after.parents), (&links, &before.parents));
+    let (a, b, _, _) = plain::link(before, e);
+    let on_path = path(before, a, b);
+    for x in 0..before.parents.len() {
+        let entry = &row[7 * x..7 * x + 7];
+        let fresh = plain::entry(after, depth, x);
+        if on_path.contains(&x) {
+            assert_eq!(entry, fresh);
+        } else {
+            assert_eq!(entry, [7; 7]);
+            assert_eq!(fresh, plain::entry(before, depth, x));
+        }
+    }
+}
