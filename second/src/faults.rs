@@ -57,7 +57,7 @@ impl<'a> Faulty<'a> {
                 self.depth = rng.pick(&wrong);
             }
             Why::Ends => self.spoil_ends(rng),
-            Why::Mark => self.set_field(rng, 3, &[2, 3, 256, 257, 65_535]),
+            Why::Mark => self.set_field(rng, MARK_AT, &[2, 3, 256, 257, 65_535]),
             Why::ParentLink => self.spoil_parent(rng),
             Why::NoRoute => self.close_cycle(rng),
             Why::Shortness => self.break_shortness(rng),
@@ -121,7 +121,7 @@ impl<'a> Faulty<'a> {
     }
 
     fn withdraw(&mut self, e: usize) {
-        if let Some(mark) = self.rows.links.get_mut(LINK_WIDTH * e + 3) {
+        if let Some(mark) = self.rows.links.get_mut(LINK_WIDTH * e + MARK_AT) {
             *mark = WITHDRAWN;
         }
     }
@@ -154,9 +154,9 @@ impl<'a> Faulty<'a> {
         if !outer.is_empty() && rng.chance(80) {
             let e = rng.pick(&outer);
             let length = least_length(&net, &tree, e) as u16 - 1;
-            self.rows.links[LINK_WIDTH * e + 2] = length;
+            self.rows.links[LINK_WIDTH * e + LENGTH_AT] = length;
         } else if !inner.is_empty() {
-            self.rows.links[LINK_WIDTH * rng.pick(&inner) + 2] = 65_535;
+            self.rows.links[LINK_WIDTH * rng.pick(&inner) + LENGTH_AT] = LONGEST;
         }
     }
 }

@@ -14,6 +14,8 @@ pub const WHOLE: u16 = 65_535;
 pub const NO_LINK: u16 = 65_535;
 /// No node: the map's lowest node where none is unprotected.
 pub const NO_NODE: u16 = 65_535;
+/// The largest length of a link.
+pub const LONGEST: u16 = 65_535;
 /// The service mark of a link in service.
 pub const IN_SERVICE: u16 = 1;
 /// The service mark of a withdrawn link.
@@ -23,6 +25,10 @@ pub const WITHDRAWN: u16 = 0;
 
 /// Numbers in a link: two ends, length, service mark.
 pub const LINK_WIDTH: usize = 4;
+/// The place of the length in a link.
+pub const LENGTH_AT: usize = 2;
+/// The place of the service mark in a link.
+pub const MARK_AT: usize = 3;
 /// Numbers in an entry: state, three links, three costs.
 pub const ENTRY_WIDTH: usize = 7;
 /// The measures: sum, incr, max.

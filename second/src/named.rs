@@ -55,7 +55,7 @@ fn tiny() -> Vec<Named> {
     ];
     list.extend(with_trees(vec![
         ("one-node", Draft::nodes(1)),
-        ("two-nodes", Draft::path(2, 65_535)),
+        ("two-nodes", Draft::path(2, LONGEST)),
         ("two-parallel", Draft::path(2, 5).join(1, 0, 5)),
         ("two-unlike", Draft::path(2, 5).join(0, 1, 7).join(0, 1, 7)),
         ("two-root-1", Draft::path(2, 0).join(0, 1, 0).rooted(1)),
@@ -68,6 +68,10 @@ pub fn small() -> Vec<Named> {
     let mut rng = Rng::new(1);
     let doubled = Draft::path(5, 4).with_parallels(&mut rng, 6);
     let withdrawn = Draft::ring(6, 2).with_withdrawn(&mut rng, 5);
+    let mut far = Draft::path(4, LONGEST);
+    far.add(3, 0, 9, WITHDRAWN);
+    let mut high = Draft::ring(100, 1);
+    high.n += 1;
     let lifted = Draft::grid(3, 4, 2).shuffled(&mut rng);
     let mut list = tiny();
     list.extend(with_trees(vec![
@@ -83,11 +87,13 @@ pub fn small() -> Vec<Named> {
         ("ring-root-3", Draft::ring(5, 6).rooted(3)),
         ("zero-grid", Draft::grid(3, 4, 0)),
         ("zero-complete", Draft::complete(5, 0)),
-        ("longest-complete", Draft::complete(6, 65_535)),
-        ("longest-ring", Draft::ring(9, 65_535)),
+        ("longest-complete", Draft::complete(6, LONGEST)),
+        ("longest-ring", Draft::ring(9, LONGEST)),
         ("parallel-tree-links", doubled),
         ("withdrawn-links", withdrawn),
+        ("withdrawn-and-far", far),
         ("map-words", Draft::star(130, 1)),
+        ("map-second-word", high.join(50, 100, 1)),
     ]));
     list
 }
@@ -96,12 +102,12 @@ pub fn small() -> Vec<Named> {
 pub fn large() -> Vec<Named> {
     let mut rng = Rng::new(3);
     let n = MOST_NODES;
-    let long = Draft::path(n, 65_535);
+    let long = Draft::path(n, LONGEST);
     let doubled = long.clone().links;
     let mut twice = long.clone();
     twice.links.extend(doubled);
     let most = Draft::sprawl(&mut rng, n).with_more(&mut rng, MOST_LINKS - (n - 1));
-    let most = most.with_lengths(|_| rng.from_to(0, 65_535) as u16);
+    let most = most.with_lengths(|_| rng.word());
     let most = most.shuffled(&mut rng);
     let tied = Draft::path(n, 0).with_more(&mut rng, MOST_LINKS - (n - 1));
     let legs = Draft::caterpillar(n / 4, 3, 9);
@@ -113,7 +119,7 @@ pub fn large() -> Vec<Named> {
         ("most-nodes-most-links", most),
         ("large-grid", Draft::grid(16, 32, 1).rooted(n - 1)),
         ("large-ring", Draft::ring(n, 7)),
-        ("large-star", Draft::star(n, 65_535).rooted(0)),
+        ("large-star", Draft::star(n, LONGEST).rooted(0)),
         ("large-caterpillar", legs),
     ])
 }

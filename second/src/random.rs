@@ -28,9 +28,9 @@ fn shape(rng: &mut Rng, n: usize) -> Draft {
 
 /// A way to choose lengths: short ones tie, long ones come near the limit.
 fn lengths(rng: &mut Rng, draft: Draft) -> Draft {
-    let most = rng.pick(&[0, 0, 1, 1, 2, 3, 5, 9, 40, 1_000, 65_535]);
+    let most = rng.pick(&[0, 0, 1, 1, 2, 3, 5, 9, 40, 1_000, LONGEST]);
     match rng.below(10) {
-        0 => draft.with_lengths(|_| 65_535),
+        0 => draft.with_lengths(|_| LONGEST),
         1 => draft.with_lengths(|_| most),
         _ => draft.with_lengths(|_| rng.from_to(0, most as usize) as u16),
     }

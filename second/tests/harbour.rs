@@ -174,6 +174,48 @@ fn refusals_5_to_9_and_their_places() {
     assert_eq!(verdict(&|r| r.links[14] = 4), (9, 3));
 }
 
+/// Faults are put into Harbour one after the other, from 9 down to 1; the
+/// last one put in is the one told. Short room, 10, comes after all of them.
+#[test]
+fn the_order_of_a_network() {
+    let mut rows = harbour();
+    let mut depth = WHOLE;
+    for number in (1..=9).rev() {
+        match number {
+            9 => rows.links[22] = 1,
+            8 => rows.parents[2..4].fill(5),
+            7 => rows.parents[4] = 5,
+            6 => rows.links[19] = 2,
+            5 => rows.links[13] = 700,
+            4 => depth = 511,
+            3 => rows.root = 600,
+            2 => rows.links.resize(4 * 2_049, 9),
+            _ => rows.parents.resize(513, 9),
+        }
+        let place = [0, 0, 0, 0, 0, 3, 4, 4, 2, 5][number];
+        let right = Err((number as u16, place));
+        assert_eq!(told(check(&rows.lend(), depth).map(|_| ())), right);
+        assert_eq!(told(table(&rows.lend(), depth, &mut [7; 34])), right);
+        assert_eq!(
+            told(map(&rows.lend(), depth, &mut [7; 7]).map(|_| ())),
+            right
+        );
+        let wanted = Change {
+            link: 7,
+            mark: 2,
+            length: 1,
+        };
+        let answer = told(change(&mut rows, depth, &mut [7; 34], &wanted));
+        assert_eq!(answer, right);
+    }
+    let mut rows = harbour();
+    for (link, mark, length, right) in [(7, 2, 1, (10, 0)), (0, 2, 1, (10, 0))] {
+        let wanted = Change { link, mark, length };
+        let answer = told(change(&mut rows, WHOLE, &mut [7; 34], &wanted));
+        assert_eq!(answer, Err(right));
+    }
+}
+
 /// Nodes 2 and 3 name one link; node 1 hangs below them.
 #[test]
 fn the_lowest_node_without_a_route_need_not_lie_on_the_cycle() {

@@ -13,7 +13,7 @@ use Rattle.rows.specs.Lists.{has, upTo, firstOf, total, same}
 use Rattle.network.specs.Network.{fieldIn, linkIn, netOf, inService, touches, otherEnd}
 use Rattle.network.specs.Records.{badNodes, badLinks, badRoot, badDepth, sizeVerdict, badEnds, badMark, unfit, badParent}
 use Rattle.tree.specs.Tree.{treeOf, climb, route, arrives, hasRoute, dist, under, hops, wayUp, meet, apart, onPath}
-use Rattle.sound.specs.Sound.{noRoute, short, notShort, recordVerdict, netVerdict}
+use Rattle.sound.specs.Sound.{noRoute, keepsShort, short, notShort, recordVerdict, netVerdict}
 use Rattle.swap.specs.Swap.{lower, upper, crosses, within, candidate, newDist, inside, cost, costOf, before, bestSwap}
 use Rattle.swap.specs.Entry.{crossed, saved, stateBelow, state, priced, swapOf, entry}
 use Rattle.table.specs.Table.{table, tableVerdict, tableRow}
@@ -22,7 +22,7 @@ use Rattle.change.specs.Change.{isParent, breaks, changeVerdict, setLink, stand
 use Rattle.harbour.specs.Harbour.{links, parents, at, harbour, alone, rootEntry, bridge, one, two, three, right, wrong, nine, linksSeven, linksNine, twoSeven, oneNine, twoNine, said, room, after, answer, cases, holds}
 
 pub harbour-cases : holds cases ≡ true
-unfolding numberOf entryRow sumTo maxTo someTo rowsTo onlyIf beats bestTo firstTo foundOr refusedAt refuseAt refuseIf firstly has upTo firstOf total same fieldIn linkIn netOf inService touches otherEnd badNodes badLinks badRoot badDepth sizeVerdict badEnds badMark unfit badParent treeOf climb route arrives hasRoute dist under hops wayUp meet apart onPath noRoute short notShort recordVerdict netVerdict lower upper crosses within candidate newDist inside cost costOf before bestSwap crossed saved stateBelow state priced swapOf entry table tableVerdict tableRow unprotected word mapOf ones lowest mapVerdict mapRow isParent breaks changeVerdict setLink standing mendedAt mended changed links parents at harbour alone rootEntry bridge one two three right wrong nine linksSeven linksNine twoSeven oneNine twoNine said room after answer cases holds
+unfolding numberOf entryRow sumTo maxTo someTo rowsTo onlyIf beats bestTo firstTo foundOr refusedAt refuseAt refuseIf firstly has upTo firstOf total same fieldIn linkIn netOf inService touches otherEnd badNodes badLinks badRoot badDepth sizeVerdict badEnds badMark unfit badParent treeOf climb route arrives hasRoute dist under hops wayUp meet apart onPath noRoute keepsShort short notShort recordVerdict netVerdict lower upper crosses within candidate newDist inside cost costOf before bestSwap crossed saved stateBelow state priced swapOf entry table tableVerdict tableRow unprotected word mapOf ones lowest mapVerdict mapRow isParent breaks changeVerdict setLink standing mendedAt mended changed links parents at harbour alone rootEntry bridge one two three right wrong nine linksSeven linksNine twoSeven oneNine twoNine said room after answer cases holds
 harbour-cases = refl
 
 -- each case as an equation, to be cited by what the promises say

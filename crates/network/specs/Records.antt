@@ -38,21 +38,17 @@ sizeVerdict most n m search =
     refuseIf (badDepth most (search .depth)) BadDepth 0 ∷ [])
 
 -- 5: an end is not a node, or both ends are equal.
-unfoldable pub badEnds : Net → ℕ → Bool
-badEnds g e =
-    let l = g .link e in
-    leb (g .nodes) (l .first) || leb (g .nodes) (l .second) || eqb (l .first) (l .second)
+unfoldable pub badEnds : ℕ → Link → Bool
+badEnds n l = leb n (l .first) || leb n (l .second) || eqb (l .first) (l .second)
 
 -- 6: the service mark is not 0 or 1.
 unfoldable pub badMark : ℕ → Bool
 badMark mark = not (eqb mark withdrawn || eqb mark served)
 
 -- 7 for a node that is not the root: its parent link is no link, withdrawn or not touching it.
-unfoldable pub unfit : Net → ℕ → Bool
-unfit g u =
-    let e = g .parent u in
-    leb (g .links) e || not (inService (g .link e)) || not (touches (g .link e) u)
+unfoldable pub unfit : Net → ℕ → ℕ → Bool
+unfit g u e = leb (g .links) e || not (inService (g .link e)) || not (touches (g .link e) u)
 
 -- 7: the root's parent link is not 65,535, or another's is unfit.
 unfoldable pub badParent : Net → ℕ → Bool
-badParent g u = let other = unfit g u in cond (eqb u (g .search .root)) (not (eqb (g .parent u) noLink)) other
+badParent g u = let other = unfit g u (g .parent u) in cond (eqb u (g .search .root)) (not (eqb (g .parent u) noLink)) other

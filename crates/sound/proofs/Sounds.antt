@@ -27,7 +27,7 @@ pub record Sized (g : Net) : Type 0 where
 
 -- what checks 5 to 9 leave
 pub record Recorded (g : Net) : Type 0 where
-  pub ends-ok : (e : ℕ) → e < g .links → badEnds g e ≡ false
+  pub ends-ok : (e : ℕ) → e < g .links → badEnds (g .nodes) (g .link e) ≡ false
   pub marks-ok : (e : ℕ) → e < g .links → badMark (g .link e .mark) ≡ false
   pub parents-ok : (u : ℕ) → u < g .nodes → badParent g u ≡ false
   pub routes-ok : (u : ℕ) → u < g .nodes → Home (treeOf g) u
@@ -67,7 +67,7 @@ records-say g t5 =
     let t8 = rest-taken _ _ t7 in
     let t9 = rest-taken _ _ t8 in
     record {
-      ends-ok = at-taken (badEnds g) (g .links) BadEnds (head-taken _ _ t5);
+      ends-ok = at-taken (λ e. badEnds (g .nodes) (g .link e)) (g .links) BadEnds (head-taken _ _ t5);
       marks-ok = at-taken (λ e. badMark (g .link e .mark)) (g .links) BadMark (head-taken _ _ t6);
       parents-ok = at-taken (badParent g) (g .nodes) BadParent (head-taken _ _ t7);
       routes-ok = λ u l. home-is g u (at-taken (noRoute g) (g .nodes) NoRoute (head-taken _ _ t8) u l);
@@ -91,7 +91,7 @@ sizes-taken g s =
 pub records-taken : (g : Net) → Recorded g → recordVerdict g ≡ Taken
 unfolding recordVerdict
 records-taken g r =
-    both-taken _ _ (at-passes (badEnds g) (g .links) BadEnds (r .ends-ok))
+    both-taken _ _ (at-passes (λ e. badEnds (g .nodes) (g .link e)) (g .links) BadEnds (r .ends-ok))
     (both-taken _ _ (at-passes (λ e. badMark (g .link e .mark)) (g .links) BadMark (r .marks-ok))
     (both-taken _ _ (at-passes (badParent g) (g .nodes) BadParent (r .parents-ok))
     (both-taken _ _ (at-passes (noRoute g) (g .nodes) NoRoute (λ u l. home-not g u (r .routes-ok u l)))

@@ -17,9 +17,13 @@ use Rattle.tree.specs.Tree.{Tree, treeOf, hasRoute, dist}
 unfoldable pub noRoute : Net → ℕ → Bool
 noRoute g u = not (hasRoute (treeOf g) u)
 
+-- The two inequalities, of two distances and a length.
+unfoldable pub keepsShort : ℕ → ℕ → ℕ → Bool
+keepsShort p q w = leb p (q + w) && leb q (p + w)
+
 -- d(a) <= d(b) + w and d(b) <= d(a) + w.
 unfoldable pub short : Tree → ℕ → ℕ → ℕ → Bool
-short t a b w = leb (dist t a) (dist t b + w) && leb (dist t b) (dist t a + w)
+short t a b w = keepsShort (dist t a) (dist t b) w
 
 -- 9: the link is in service and breaks shortness.
 unfoldable pub notShort : Net → ℕ → Bool
@@ -31,7 +35,7 @@ notShort g e =
 unfoldable pub recordVerdict : Net → Verdict
 recordVerdict g =
     firstly
-    (refuseAt (badEnds g) (g .links) BadEnds ∷
+    (refuseAt (λ e. badEnds (g .nodes) (g .link e)) (g .links) BadEnds ∷
     refuseAt (λ e. badMark (g .link e .mark)) (g .links) BadMark ∷
     refuseAt (badParent g) (g .nodes) BadParent ∷
     refuseAt (noRoute g) (g .nodes) NoRoute ∷

@@ -18,7 +18,7 @@ use Rattle.network.specs.Network.{Net, inService}
 use Rattle.tree.specs.Tree.{Tree, treeOf, dist, under, apart}
 use Rattle.tree.proofs.Ways.{Home, home-up, under-self}
 use Rattle.tree.proofs.Meeting.{apart-over, apart-far}
-use Rattle.sound.specs.Sound.{short}
+use Rattle.sound.specs.Sound.{keepsShort, short}
 use Rattle.sound.proofs.Sounds.{Sound}
 use Rattle.sound.proofs.Holding.{home, first-in, second-in, link-short}
 use Rattle.swap.specs.Swap.{lower, upper, crosses, newDist, inside, cost}
@@ -72,7 +72,7 @@ module _ (t : Tree) (x : ℕ) (l : Link) where
 
   -- the two inequalities, read from the lower end
   short-ends : short t (l .first) (l .second) (l .length) ≡ true → dist t (lower t x l) ≤ dist t (upper t x l) + l .length
-  unfolding short lower upper
+  unfolding short keepsShort lower upper
   short-ends h = go (under t x (l .first)) refl
     where
       go : (b : Bool) → under t x (l .first) ≡ b → dist t (lower t x l) ≤ dist t (upper t x l) + l .length

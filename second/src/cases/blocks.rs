@@ -1,6 +1,6 @@
 //! Cases of op 8: one block, and the kind, number and used count asked.
 
-use crate::block::{right_check, seal};
+use crate::block::{holds, right_check, seal};
 use crate::file::{slots, Slot};
 use crate::file_faults::sound_file;
 use crate::harbour::harbour;
@@ -44,6 +44,7 @@ pub fn fixed() -> Vec<Case> {
         cases.extend(wrong_asks(&block, asked));
         cases.extend(wrong_lengths(&block, asked));
         cases.extend(wrong_bytes(&block, asked));
+        cases.extend(wrong_alike(&block, asked));
     }
     cases.extend(check_of_zero());
     cases
@@ -77,14 +78,11 @@ fn wrong_lengths(block: &[u8], asked: [u16; 3]) -> Vec<Case> {
     lengths.iter().map(sized).collect()
 }
 
-/// Every byte before the payload, every 5th byte of it, changed; with and
-/// without a corrected check. A block of zeros, and one of ones.
+/// Every byte up to the end of Harbour's entries, then every 5th, changed;
+/// with and without a corrected check. A block of zeros, and one of ones.
 fn wrong_bytes(block: &[u8], asked: [u16; 3]) -> Vec<Case> {
     let mut cases = Vec::new();
-    for at in (0..HEAD)
-        .chain((HEAD..HEAD + 150).step_by(1))
-        .chain((158..BLOCK).step_by(5))
-    {
+    for at in (0..160).chain((160..BLOCK).step_by(5)) {
         let mut bytes = block.to_vec();
         bytes[at] ^= 0x11;
         cases.push(case(&bytes, asked));
@@ -94,6 +92,35 @@ fn wrong_bytes(block: &[u8], asked: [u16; 3]) -> Vec<Case> {
     cases.push(case(&[0; BLOCK], asked));
     cases.push(case(&[0xFF; BLOCK], asked));
     cases
+}
+
+/// A block that says what is asked, where that is no kind, or a used count of
+/// 0 or too large. Number 65,535 is as good as any.
+fn wrong_alike(block: &[u8], [kind, number, used]: [u16; 3]) -> Vec<Case> {
+    let (most, _) = holds(kind).expect("one of the three kinds");
+    let most = most as u16;
+    let asks = [
+        [0, number, used],
+        [0x49, number, used],
+        [kind, 65_535, used],
+        [kind, 256 + number, used],
+        [kind, number, 0],
+        [kind, number, most],
+        [kind, number, most + 1],
+        [kind, number, 256 + used],
+    ];
+    let saying = |asked: [u16; 3]| {
+        let mut bytes = block.to_vec();
+        bytes[0] = asked[0] as u8;
+        bytes[2..4].copy_from_slice(&asked[1].to_be_bytes());
+        bytes[4..6].copy_from_slice(&asked[2].to_be_bytes());
+        seal(&mut bytes);
+        let whole = case(&bytes, asked);
+        bytes[HEAD..].fill(0);
+        seal(&mut bytes);
+        [whole, case(&bytes, asked)]
+    };
+    asks.map(saying).concat()
 }
 
 /// A link block whose check is 0: stored as it is, and as FFFF.

@@ -38,7 +38,7 @@ pub fn fixed(op: u16) -> Vec<Case> {
     }
     for named in over() {
         cases.push(case(op, &named.rows, WHOLE, [0, 1, 4]));
-        cases.push(case(op, &named.rows, WHOLE, [2048, 2, 4]));
+        cases.push(case(op, &named.rows, WHOLE, [MOST_LINKS as u16, 2, 4]));
     }
     cases.extend(rooms(op));
     cases.extend(faulty(op));
@@ -88,7 +88,7 @@ fn every_change(rows: &Rows, links: usize) -> Vec<Words> {
     }
     for e in (0..m).filter(in_tree).take(2) {
         let link = net.link(e as usize);
-        changes.extend([[e, 1, link.length], [e, 0, 0], [e, 2, 0], [e, 1, 65_535]]);
+        changes.extend([[e, 1, link.length], [e, 0, 0], [e, 2, 0], [e, 1, LONGEST]]);
     }
     changes.extend([[m, 1, 1], [m, 7, 1], [NO_LINK, 0, 0]]);
     changes
@@ -97,13 +97,13 @@ fn every_change(rows: &Rows, links: usize) -> Vec<Words> {
 /// Turned over, set as it stands, as short as lawful, too short by one,
 /// withdrawn too short, longer by one, longest, a bad mark.
 fn changes_of(e: u16, mark: u16, length: u16, least: u64) -> Vec<Words> {
-    let least = least.min(65_535) as u16;
+    let least = least.min(u64::from(LONGEST)) as u16;
     let mut changes = vec![
         [e, 1 - mark, length.max(least)],
         [e, mark, length],
         [e, 1, least],
         [e, 1, length.saturating_add(1)],
-        [e, 1, 65_535],
+        [e, 1, LONGEST],
         [e, 0, least],
         [e, 2, length],
     ];
@@ -168,7 +168,7 @@ fn some_change(rng: &mut Rng, rows: &Rows, kind: usize) -> Words {
     }
     let e = rng.pick(&spare);
     let tree = check(&net, WHOLE).expect("the network is sound");
-    let least = least_length(&net, &tree, e as usize).min(65_535) as u16;
+    let least = least_length(&net, &tree, e as usize).min(u64::from(LONGEST)) as u16;
     let length = net.link(e as usize).length;
     match kind {
         0 => [

@@ -28,9 +28,9 @@ pub fn ending(seed: u64) -> Vec<u8> {
         9 => stops(&whole, |head| head.parents = PROBE_PARENTS + 1),
         10 => stops(&whole, |head| head.rest = PROBE_LINKS + 1),
         11 => stops(&whole, |head| head.room = PROBE_ROOM + 1),
-        12 => stops(&whole, |head| read_rooms(head, [8_401, 0, 0])),
-        13 => stops(&whole, |head| read_rooms(head, [0, 601, 0])),
-        14 => stops(&whole, |head| read_rooms(head, [0, 0, 40_001])),
+        12 => stops(&whole, |head| read_rooms(head, [PROBE_LINKS + 1, 0, 0])),
+        13 => stops(&whole, |head| read_rooms(head, [0, PROBE_PARENTS + 1, 0])),
+        14 => stops(&whole, |head| read_rooms(head, [0, 0, PROBE_ROOM + 1])),
         _ => stops(&whole, |head| {
             head.op = PAYLOAD_OF;
             head.rest = PROBE_BYTES + 1;
@@ -38,9 +38,9 @@ pub fn ending(seed: u64) -> Vec<u8> {
     }
 }
 
-fn read_rooms(head: &mut Head, rooms: [u16; 3]) {
+fn read_rooms(head: &mut Head, rooms: [usize; 3]) {
     head.op = READ;
-    head.abc = rooms;
+    head.abc = rooms.map(|room| room as u16);
 }
 
 /// A head that stops the probe, with a sound case behind it that is not read.

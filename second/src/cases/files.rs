@@ -36,9 +36,14 @@ pub fn fixed() -> Vec<Case> {
     cases
 }
 
+/// The most room that a case may lend for the three rows.
+fn most_room() -> [u16; 3] {
+    [PROBE_LINKS, PROBE_PARENTS, PROBE_ROOM].map(|room| room as u16)
+}
+
 /// No byte, less than a block, blocks of zero, the longest.
 fn lengths() -> Vec<Case> {
-    let rooms = [8_192, 512, 3_584];
+    let rooms = most_room();
     let counts = [
         0, 1, 511, 512, 513, 1_024, 1_536, 32_256, 32_257, 32_768, 33_000,
     ];
@@ -67,7 +72,7 @@ fn rooms() -> Vec<Case> {
         unused.root = 9;
         unused.depth = DEEPEST + 1;
         cases.push(unused);
-        cases.push(Case::over_bytes(READ, &lent.bytes, [8_400, 600, 40_000]));
+        cases.push(Case::over_bytes(READ, &lent.bytes, most_room()));
     }
     cases
 }
@@ -120,7 +125,7 @@ fn check_of_zero() -> Vec<Case> {
     let mut rows = harbour();
     rows.links.extend([1, 4, 0, WITHDRAWN]);
     let check = &sound_file(&rows, WHOLE).bytes[BLOCK + 6..BLOCK + 8];
-    let at = LINK_WIDTH * 7 + 2;
+    let at = LINK_WIDTH * 7 + LENGTH_AT;
     rows.links[at] = u16::from_be_bytes([check[0], check[1]]);
     let mut lent = sound_file(&rows, WHOLE);
     let mut cases = vec![case(&lent)];

@@ -128,7 +128,7 @@ fn cycles() -> Vec<Rows> {
         rows(&[NO_LINK, 1, 2, 2, 3, 4], 1),
         rows(&[NO_LINK, 1, 2, 5, 3, 4], 0),
         rows(&[NO_LINK, 0, 2, 5, 3, 4], 3),
-        rows(&[NO_LINK, 0, 1, 3, 3, 4], 65_535),
+        rows(&[NO_LINK, 0, 1, 3, 3, 4], LONGEST),
     ]
 }
 
@@ -141,7 +141,7 @@ fn wrong_parents() -> Vec<Rows> {
         rows
     };
     let mut withdrawn = harbour();
-    withdrawn.links[LINK_WIDTH * 6 + 3] = WITHDRAWN;
+    withdrawn.links[LINK_WIDTH * 6 + MARK_AT] = WITHDRAWN;
     let mut elsewhere = harbour();
     elsewhere.root = 4;
     vec![
