@@ -1,4 +1,9 @@
-// The values that go in and out of every layer. All are plain and go by value.
+// The edition's numbers and memory's, and the values that go in and out of every layer. All are plain and go by value.
+ghost use mathlib.Core.Path.{_≡_};
+ghost use Rattle.edition.specs.Limits.{noLink, noNode, memoryLimits};
+ghost use Rattle.edition.specs.Stored.{editionLimits};
+ghost use Rattle.edition.specs.Refusals.{numberOf};
+ghost use Rattle.edition.specs.Entries.{noSwap, blank};
 
 // Why something is refused: a case for each number of document 01's list.
 pub enum Why {
@@ -78,4 +83,183 @@ pub struct Entry {
     pub sum: Swap,
     pub incr: Swap,
     pub max: Swap,
+}
+
+// Edition 1: what its files can hold, how they are laid out, and its marks. No other file of code writes these numbers.
+pub struct Edition {
+    pub number: u8,
+}
+
+impl Edition {
+    pub const NUMBER: u8 = 1;
+
+    // The limits of a file.
+    pub const NODES: usize = 512;
+
+    pub const LINKS: usize = 2048;
+
+    pub const DEPTH: usize = 510;
+
+    // The mark 65,535: no link, no node, the whole search.
+    pub const NO_LINK: u16 = 65535;
+
+    pub const NO_NODE: u16 = 65535;
+
+    pub const WHOLE: u16 = 65535;
+
+    // The service marks.
+    pub const SERVED: u16 = 1;
+
+    pub const WITHDRAWN: u16 = 0;
+
+    // The states of an entry.
+    pub const ROOT: u16 = 0;
+
+    pub const SWAP: u16 = 1;
+
+    pub const NONE: u16 = 2;
+
+    pub const BRIDGE: u16 = 3;
+
+    // Blocks and their kinds.
+    pub const BLOCK_BYTES: usize = 512;
+
+    pub const FRONT_BYTES: usize = 8;
+
+    pub const PAYLOAD_BYTES: usize = Edition::BLOCK_BYTES - Edition::FRONT_BYTES;
+
+    pub const HEADER_KIND: u8 = 72;
+
+    pub const LINKS_KIND: u8 = 76;
+
+    pub const TABLE_KIND: u8 = 84;
+
+    // Bytes a record, and records a block.
+    pub const HEADER_BYTES: usize = 8;
+
+    pub const LINK_BYTES: usize = 8;
+
+    pub const ENTRY_BYTES: usize = 28;
+
+    pub const LINKS_A_BLOCK: usize = 63;
+
+    pub const ENTRIES_A_BLOCK: usize = 18;
+
+    pub const BLOCKS: usize = 63;
+
+    // What a file can hold.
+    pub fn limits() -> Limits
+        ensures { λ r. ⌜ r ≡ editionLimits ⌝ }
+    {
+        Limits {
+            nodes: Edition::NODES,
+            links: Edition::LINKS,
+            depth: Edition::DEPTH,
+        }
+    }
+
+    // The mark where a link is named and there is none.
+    pub fn no_link() -> u16
+        ensures { λ r. ⌜ r ≡ noLink ⌝ }
+    {
+        Edition::NO_LINK
+    }
+
+    // The mark where a node is named and there is none.
+    pub fn no_node() -> u16
+        ensures { λ r. ⌜ r ≡ noNode ⌝ }
+    {
+        Edition::NO_NODE
+    }
+
+    // No swap link: the mark and a cost of 0.
+    pub fn no_swap() -> Swap
+        ensures { λ r. ⌜ r ≡ noSwap ⌝ }
+    {
+        Swap {
+            link: Edition::NO_LINK,
+            cost: 0,
+        }
+    }
+
+    // An entry without links and costs.
+    pub fn blank_entry(state: u16) -> Entry
+        ensures { λ r. ⌜ r ≡ blank state ⌝ }
+    {
+        let none = Swap {
+            link: Edition::NO_LINK,
+            cost: 0,
+        };
+        Entry {
+            state,
+            sum: none,
+            incr: none,
+            max: none,
+        }
+    }
+
+    // The root's entry.
+    pub fn root_entry() -> Entry
+        ensures { λ r. ⌜ r ≡ blank 0 ⌝ }
+    {
+        Edition::blank_entry(Edition::ROOT)
+    }
+}
+
+// What memory holds: its own limits, and how wide the records of its rows are.
+pub struct Memory {
+    pub words: usize,
+}
+
+impl Memory {
+    pub const NODES: usize = 512;
+
+    pub const LINKS: usize = 2048;
+
+    pub const DEPTH: usize = 510;
+
+    // Numbers a record: a link's, an entry's.
+    pub const LINK: usize = 4;
+
+    pub const ENTRY: usize = 7;
+
+    // The unprotected map: words, and bits a word.
+    pub const WORDS: usize = 8;
+
+    pub const BITS: usize = 64;
+
+    pub fn limits() -> Limits
+        ensures { λ r. ⌜ r ≡ memoryLimits ⌝ }
+    {
+        Limits {
+            nodes: Memory::NODES,
+            links: Memory::LINKS,
+            depth: Memory::DEPTH,
+        }
+    }
+}
+
+// The number that document 01 gives a refusal.
+pub fn number(why: Why) -> u16
+    ensures { λ r. ⌜ r ≡ numberOf why ⌝ }
+{
+    match why {
+        Why::NodeCount => 1,
+        Why::LinkCount => 2,
+        Why::BadRoot => 3,
+        Why::BadDepth => 4,
+        Why::BadEnds => 5,
+        Why::BadMark => 6,
+        Why::BadParent => 7,
+        Why::NoRoute => 8,
+        Why::NotShort => 9,
+        Why::NoRoom => 10,
+        Why::LinkMissing => 11,
+        Why::TreeLink => 12,
+        Why::BreaksShort => 13,
+        Why::BadLength => 20,
+        Why::BadCheck => 21,
+        Why::BadBlock => 22,
+        Why::BadEntry => 24,
+    }
 }

@@ -46,9 +46,12 @@ unfoldable pub badMark : ℕ → Bool
 badMark mark = not (eqb mark withdrawn || eqb mark served)
 
 -- 7 for a node that is not the root: its parent link is no link, withdrawn or not touching it.
-unfoldable pub unfit : Net → ℕ → ℕ → Bool
-unfit g u e = leb (g .links) e || not (inService (g .link e)) || not (touches (g .link e) u)
+unfoldable pub unfit : ℕ → ℕ → Link → ℕ → Bool
+unfit m e l u = leb m e || not (inService l) || not (touches l u)
 
 -- 7: the root's parent link is not 65,535, or another's is unfit.
 unfoldable pub badParent : Net → ℕ → Bool
-badParent g u = let other = unfit g u (g .parent u) in cond (eqb u (g .search .root)) (not (eqb (g .parent u) noLink)) other
+badParent g u =
+    let e = g .parent u in
+    let other = unfit (g .links) e (g .link e) u in
+    cond (eqb u (g .search .root)) (not (eqb (g .parent u) noLink)) other

@@ -1,7 +1,9 @@
 pub mod Tests
 pub mod Best
+pub mod Seeking
 pub mod Refusing
 pub mod Counting
+pub mod Places
 pub mod Records
 pub mod Listed
 pub mod Distinct

@@ -89,3 +89,9 @@ unfolding verdictTo
 to-passes f zero h = refl
 to-passes f (suc k) h =
     both-taken _ _ (to-passes f k (λ j l. h j (omega arith))) (both-taken _ _ (h k (omega arith)) none-left)
+
+-- the last check decides by itself
+pub only-one : (v : Verdict) → firstly (v ∷ []) ≡ v
+unfolding firstly
+only-one Taken = refl
+only-one (Refused r) = refl

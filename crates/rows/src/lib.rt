@@ -1,1 +1,42 @@
-// Numbers in lent rows. What is said of them stands in specs/, the laws that every layer cites in proofs/.
+// Numbers in lent rows: total reads, and what a search found as a verdict.
+ghost use mathlib.Core.Path.{_≡_};
+ghost use lib.ListN.{getD, set};
+ghost use Rattle.rows.specs.First.{refuseIf, refusedAt};
+use edition::Found;
+use edition::Refusal;
+use edition::Verdict;
+use edition::Why;
+
+// The number at place i; another one past the row's end.
+pub fn at(row: &[u16], i: usize, other: u16) -> u16
+    ensures { λ r. ⌜ r ≡ getD (now (row .entry)) i other ⌝ }
+{
+    if i < row.len() { row[i] } else { other }
+}
+
+// The 64-bit number at place i; 0 past the row's end.
+pub fn wide_at(row: &[u64], i: usize) -> u64
+    ensures { λ r. ⌜ r ≡ getD (now (row .entry)) i 0 ⌝ }
+{
+    if i < row.len() { row[i] } else { 0 }
+}
+
+// Refused for this reason and at this place where the test holds.
+pub fn refuse_if(bad: bool, why: Why, place: usize) -> Verdict
+    ensures { λ r. ⌜ r ≡ refuseIf bad why place ⌝ }
+{
+    if bad {
+        return Verdict::Refused(Refusal { why, place });
+    }
+    Verdict::Taken
+}
+
+// Refused for this reason at what was found.
+pub fn refused_at(why: Why, found: Found) -> Verdict
+    ensures { λ r. ⌜ r ≡ refusedAt why found ⌝ }
+{
+    match found {
+        Found::Nothing => Verdict::Taken,
+        Found::At(place) => Verdict::Refused(Refusal { why, place }),
+    }
+}

@@ -1,0 +1,32 @@
+-- `network::field` meets its contract. Assumes nothing.
+use borrow.Author.Tests.{lt-ltb, le-ltb}
+use Rattle.rows.specs.Count.{onlyIf}
+use Rattle.network.specs.Network.{fieldIn}
+use borrow.Author.Needs.{needs}
+use Rattle.network.proofs.field.Statement.{statement}
+use Rattle.network.proofs.field.Tie as tie
+
+mul-result : tie.Need-mul-result
+mul-result c = search needs
+
+add-result : tie.Need-add-result
+add-result c = search needs
+
+mul-result-2 : tie.Need-mul-result-2
+mul-result-2 c = search needs
+
+shared-slice-read-result : tie.Need-shared-slice-read-result
+shared-slice-read-result c = search needs
+
+returns : tie.Need-returns
+unfolding fieldIn onlyIf
+returns c = rw (lt-ltb _ _ (c .before .if1 .taken))
+
+returns-2 : tie.Need-returns-2
+unfolding fieldIn onlyIf
+returns-2 c = rw (le-ltb _ _ (c .if1 .left))
+
+pub field-spec : {M : Type 1} → statement M
+field-spec =
+    tie.close
+    (tie.spec mul-result add-result mul-result-2 shared-slice-read-result returns returns-2)
