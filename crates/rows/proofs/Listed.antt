@@ -94,6 +94,25 @@ firstOf-meets c (u ∷ r) s h g = go (firstOf-meets c r s) (has u s) refl
               (λ i k. m .none y k);
         })
 
+-- there is only one such place
+pub meets-only : (r s : List ℕ) (c : ℕ) → Meets r s c → c ≡ firstOf s r
+unfolding has firstOf
+meets-only [] s c m = clash (m .one) refl
+meets-only (u ∷ r) s c m = go (meets-only r s c) (eqb u c) refl (has u s) refl
+  where
+    go : (Meets r s c → c ≡ firstOf s r) → (a : Bool) → eqb u c ≡ a → (b : Bool) → has u s ≡ b → c ≡ firstOf s (u ∷ r)
+    go ih true e true f = rw f (sym (eqb-true u c e))
+    go ih true e false f = clash (m .two) (subst (λ (k : ℕ). has k s ≡ false) (eqb-true u c e) f)
+    go ih false e true f = clash f (m .none u (rw (upTo-past u c r e) (has-head u (upTo c r))))
+    go ih false e false f =
+        rw f
+        (ih
+        (record {
+          one = rw e at (m .one);
+          two = m .two;
+          none = λ y n. m .none y (rw (upTo-past u c r e) (or-right (eqb u y) (has y (upTo c r)) n));
+        }))
+
 -- lists that compare the same are equal, and equal lists compare the same
 pub same-equal : (a b : List ℕ) → same a b ≡ true → a ≡ b
 unfolding same

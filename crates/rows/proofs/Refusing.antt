@@ -43,13 +43,13 @@ unfolding firstly
 none-left = refl
 
 -- the first that refuses decides
-pub head-refuses : (r : Refusal) (rest : List Verdict) → firstly (Refused r ∷ rest) ≡ Refused r
+pub head-refuses : (v : Verdict) (rest : List Verdict) (r : Refusal) → v ≡ Refused r → firstly (v ∷ rest) ≡ Refused r
 unfolding firstly
-head-refuses r rest = refl
+head-refuses v rest r q = rw q
 
-pub head-passes : (rest : List Verdict) → firstly (Taken ∷ rest) ≡ firstly rest
+pub head-passes : (v : Verdict) (rest : List Verdict) → v ≡ Taken → firstly (v ∷ rest) ≡ firstly rest
 unfolding firstly
-head-passes rest = refl
+head-passes v rest q = rw q
 
 pub if-taken : (b : Bool) (why : Why) (place : ℕ) → refuseIf b why place ≡ Taken → b ≡ false
 unfolding refuseIf

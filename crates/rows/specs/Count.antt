@@ -3,6 +3,7 @@
 use mathlib.Core.Bool.{Bool, true, false, cond, _||_}
 use mathlib.Core.List.{List, [], _∷_, _++_}
 use Prim.Native.Nat.{ℕ, zero, suc, _+_, max}
+use lib.ListN.{drop}
 
 -- The sum of f over the numbers below k.
 unfoldable pub sumTo : (ℕ → ℕ) → ℕ → ℕ
@@ -27,3 +28,7 @@ rowsTo f (suc k) = rowsTo f k ++ f k
 -- The number v where the test holds, and 0 elsewhere.
 unfoldable pub onlyIf : Bool → ℕ → ℕ
 onlyIf b v = cond b v 0
+
+-- A row with the numbers f 0 to f (k - 1) at its beginning, and the rest as it was.
+unfoldable pub rowWith : (ℕ → ℕ) → ℕ → List ℕ → List ℕ
+rowWith f k row = rowsTo (λ u. f u ∷ []) k ++ drop k row

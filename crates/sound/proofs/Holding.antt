@@ -7,7 +7,7 @@ use native.Mathlib.Omega.{arith}
 use lib.Dec.{eqb, leb, ltb}
 use borrow.Author.Tests.{eqb-true, eqb-false, leb-true, leb-false, ltb-false, not-false}
 use Rattle.edition.specs.declared.Search.{Search}
-use Rattle.edition.specs.Limits.{nodeLimit, linkLimit, depthLimit, wholeSearch, memoryLimits, longest}
+use Rattle.edition.specs.Limits.{nodeLimit, linkLimit, depthLimit, wholeSearch, memoryLimits}
 use Rattle.rows.specs.Lists.{differ}
 use Rattle.rows.proofs.Tests.{clash, or-false, or3-false}
 use Rattle.network.specs.declared.Link.{Link}
@@ -107,16 +107,3 @@ module _ (g : Net) (s : Sound g) where
   -- no route of a sound network is cut: whoever has a way to the root at all has a route
   pub no-cut : {u : ℕ} {r : List ℕ} → Way (treeOf g) u r → u < treeOf g .size → Home (treeOf g) u
   no-cut w l = never-cut (treeOf g) up-in w l
-
--- lengths: the root's is 0, and none is over what a link's is
-pub rise-flat : (g : Net) (v : ℕ) → eqb v (treeOf g .root) ≡ true → treeOf g .rise v ≡ 0
-unfolding treeOf
-rise-flat g v e = rw e
-
-pub rise-held : (g : Net) → ((e : ℕ) → g .link e .length ≤ longest) → (v : ℕ) → treeOf g .rise v ≤ longest
-unfolding treeOf
-rise-held g h v = go (eqb v (g .search .root)) refl
-  where
-    go : (b : Bool) → eqb v (g .search .root) ≡ b → treeOf g .rise v ≤ longest
-    go true e = rw e (omega arith)
-    go false e = rw e (h (g .parent v))

@@ -22,8 +22,9 @@ use Rattle.network.specs.Network.{Net}
 use Rattle.tree.specs.Tree.{Tree, treeOf, dist, under}
 use Rattle.tree.proofs.Ways.{Home, above-root}
 use Rattle.tree.proofs.Bounded.{around-bound}
+use Rattle.tree.proofs.Made.{rise-flat, rise-held}
 use Rattle.sound.proofs.Sounds.{Sound}
-use Rattle.sound.proofs.Holding.{nodes-few, root-in, first-in, second-in, home, up-in, rise-flat, rise-held}
+use Rattle.sound.proofs.Holding.{nodes-few, root-in, first-in, second-in, home, up-in}
 use Rattle.swap.specs.Swap.{lower, upper, crosses, candidate, newDist, inside, cost, costOf, bestSwap}
 use Rattle.swap.specs.Entry.{priced, swapOf, entry}
 use Rattle.swap.proofs.Choosing.{Chosen, chosen}

@@ -1,3 +1,9 @@
 pub mod Ways
 pub mod Meeting
 pub mod Bounded
+pub mod Made
+pub mod Climbing
+pub mod InRows
+pub mod Writing
+pub mod Onto
+pub mod Answering

@@ -120,6 +120,11 @@ module _ (t : Tree) where
       go false f = f
       go true f = absurd (omega (arith, way-shorter w (hop e w) f))
 
+  -- a way begins with its node
+  pub way-head : {u : ℕ} {r : List ℕ} → Way t u r → (s : List ℕ) × (r ≡ u ∷ s)
+  way-head (top e) = ([], refl)
+  way-head (hop {u} {r} e w) = (r, refl)
+
   way-tail : {u : ℕ} {r : List ℕ} → Way t u r → eqb u (t .root) ≡ false → (s : List ℕ) × Way t (t .up u) s × (r ≡ u ∷ s)
   way-tail (top e) f = clash e f
   way-tail (hop {u} {r} e w) f = (r, w, refl)

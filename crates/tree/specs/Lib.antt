@@ -1,1 +1,3 @@
 pub mod Tree
+pub mod Answers
+pub mod Work

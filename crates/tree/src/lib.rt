@@ -1,1 +1,320 @@
-// The tree that a network's parent links make. Its definitions stand in specs/, its laws in proofs/.
+// The tree that a network's parent links make: climbing, routes, distances, where routes meet.
+ghost use mathlib.Core.Path.{_≡_};
+ghost use mathlib.Core.Bool.{true};
+ghost use Prim.Native.Nat.{ℕ, _+_, _*_, _<_, _≤_};
+ghost use lib.ListN.{length};
+ghost use Rattle.edition.specs.Limits.{nodeLimit};
+ghost use Rattle.rows.specs.Count.{rowWith};
+ghost use Rattle.rows.specs.Lists.{has};
+ghost use Rattle.network.specs.Network.{netOf};
+ghost use Rattle.tree.specs.Tree.{treeOf, route as routeTo, hasRoute, dist, hops};
+ghost use Rattle.tree.specs.Answers.{begun, stepped, roomVerdict, rowVerdict, distanceRow, hopRow, lost, wayVerdict, answerIf, routeAnswer, routeRow, waysVerdict, meetAnswer, apartAnswer};
+ghost use Rattle.tree.specs.Work.{Rooted, Routed, Onto};
+use edition::Edition;
+use edition::Memory;
+use edition::Refusal;
+use edition::Search;
+use edition::Verdict;
+use edition::Why;
+
+// A climb by value: where it is, and how many hops and how far that is from where it began.
+pub struct Climb {
+    pub node: usize,
+    pub hops: usize,
+    pub dist: u64,
+}
+
+// A number, or why there is none.
+pub enum Answer {
+    Is(u64),
+    Not(Refusal),
+}
+
+// The parent of u; the root is its own.
+pub fn up(links: &[u16], parents: &[u16], search: Search, u: usize) -> usize
+    ensures { λ r. ⌜ r ≡ treeOf (netOf (now (links .entry)) (now (parents .entry)) search) .up u ⌝ }
+{
+    if u == search.root as usize {
+        return u;
+    }
+    let e = network::parent_of(parents, u);
+    network::other_end(network::link_at(links, e as usize), u)
+}
+
+// The length of the link from u to its parent; 0 at the root.
+pub fn rise(links: &[u16], parents: &[u16], search: Search, u: usize) -> u16
+    ensures { λ r. ⌜ r ≡ treeOf (netOf (now (links .entry)) (now (parents .entry)) search) .rise u ⌝ }
+{
+    if u == search.root as usize {
+        return 0;
+    }
+    let e = network::parent_of(parents, u);
+    let l = network::link_at(links, e as usize);
+    l.length
+}
+
+impl Climb {
+    pub fn begin(u: usize) -> Climb
+        ensures { λ r. ⌜ r ≡ begun u ⌝ }
+    {
+        Climb {
+            node: u,
+            hops: 0,
+            dist: 0,
+        }
+    }
+
+    // One step up.
+    pub fn step(self, links: &[u16], parents: &[u16], search: Search) -> Climb
+        ensures { λ r. ⌜ r ≡ stepped (treeOf (netOf (now (links .entry)) (now (parents .entry)) search)) self ⌝ }
+    {
+        let more = rise(links, parents, search, self.node);
+        Climb {
+            node: up(links, parents, search, self.node),
+            hops: std::num::wrapping_add_usize(self.hops, 1),
+            dist: std::num::wrapping_add_u64(self.dist, more as u64),
+        }
+    }
+}
+
+// Whether u has a route to the root. It ends after as many steps as there are nodes.
+pub fn has_route(links: &[u16], parents: &[u16], search: Search, u: usize) -> bool
+    ensures { λ r. ⌜ r ≡ hasRoute (treeOf (netOf (now (links .entry)) (now (parents .entry)) search)) u ⌝ }
+{
+    let mut node = u;
+    let mut k = 0;
+    while k < parents.len() {
+        if node == search.root as usize {
+            return true;
+        }
+        node = up(links, parents, search, node);
+        k += 1;
+    }
+    false
+}
+
+// The climb from u to the root, or, where u has no route, of as many steps as there are nodes.
+fn to_root(links: &[u16], parents: &[u16], search: Search, u: usize) -> Climb
+    requires { ⌜ length (now parents) ≤ nodeLimit ⌝ }
+    ensures { λ r. ⌜ Rooted (treeOf (netOf (now (links .entry)) (now (parents .entry)) search)) u r ⌝ }
+{
+    let mut c = Climb::begin(u);
+    let mut k = 0;
+    while k < parents.len() {
+        if c.node == search.root as usize {
+            return c;
+        }
+        c = c.step(links, parents, search);
+        k += 1;
+    }
+    c
+}
+
+// Refusals 1 and 10 of a row of one number a node.
+fn check_row(n: usize, room: usize) -> Verdict
+    ensures { λ r. ⌜ r ≡ roomVerdict n room ⌝ }
+{
+    let nodes = network::check_nodes(Memory::limits(), n);
+    let Verdict::Taken = nodes else {
+        return nodes;
+    };
+    rows::refuse_if(room < n, Why::NoRoom, 0)
+}
+
+// Writes d(u) of every node.
+fn fill_distances(links: &[u16], parents: &[u16], search: Search, row: &mut [u64])
+    requires { ⌜ (length (now parents) ≤ nodeLimit) × (length (now parents) ≤ length (now row)) ⌝ }
+    ensures { λ _. ⌜ now (row .exit) ≡ rowWith (dist (treeOf (netOf (now (links .entry)) (now (parents .entry)) search))) (length (now (parents .entry))) (now (row .entry)) ⌝ }
+{
+    let mut u = 0;
+    while u < parents.len() {
+        let c = to_root(links, parents, search, u);
+        row[u] = c.dist;
+        u += 1;
+    }
+}
+
+// Writes the hops of every node below the root.
+fn fill_hops(links: &[u16], parents: &[u16], search: Search, row: &mut [usize])
+    requires { ⌜ (length (now parents) ≤ nodeLimit) × (length (now parents) ≤ length (now row)) ⌝ }
+    ensures { λ _. ⌜ now (row .exit) ≡ rowWith (hops (treeOf (netOf (now (links .entry)) (now (parents .entry)) search)) (treeOf (netOf (now (links .entry)) (now (parents .entry)) search) .root)) (length (now (parents .entry))) (now (row .entry)) ⌝ }
+{
+    let mut u = 0;
+    while u < parents.len() {
+        let c = to_root(links, parents, search, u);
+        row[u] = c.hops;
+        u += 1;
+    }
+}
+
+// d(u) of every node, into a lent row of at least n numbers. Refusals 1 and 10.
+pub fn distances(links: &[u16], parents: &[u16], search: Search, row: &mut [u64]) -> Verdict
+    ensures { λ r. ⌜ (r ≡ rowVerdict (netOf (now (links .entry)) (now (parents .entry)) search) (now (row .entry))) × (now (row .exit) ≡ distanceRow (netOf (now (links .entry)) (now (parents .entry)) search) (now (row .entry))) ⌝ }
+{
+    let room = check_row(parents.len(), row.len());
+    let Verdict::Taken = room else {
+        return room;
+    };
+    fill_distances(links, parents, search, row);
+    Verdict::Taken
+}
+
+// The hops of every node below the root, into a lent row of at least n numbers. Refusals 1 and 10.
+pub fn all_hops(links: &[u16], parents: &[u16], search: Search, row: &mut [usize]) -> Verdict
+    ensures { λ r. ⌜ (r ≡ rowVerdict (netOf (now (links .entry)) (now (parents .entry)) search) (now (row .entry))) × (now (row .exit) ≡ hopRow (netOf (now (links .entry)) (now (parents .entry)) search) (now (row .entry))) ⌝ }
+{
+    let room = check_row(parents.len(), row.len());
+    let Verdict::Taken = room else {
+        return room;
+    };
+    fill_hops(links, parents, search, row);
+    Verdict::Taken
+}
+
+// Whether u is no node, or has no route to the root.
+fn is_lost(links: &[u16], parents: &[u16], search: Search, u: usize) -> bool
+    ensures { λ r. ⌜ r ≡ lost (netOf (now (links .entry)) (now (parents .entry)) search) u ⌝ }
+{
+    if parents.len() <= u {
+        return true;
+    }
+    !has_route(links, parents, search, u)
+}
+
+// Refusals 1 and 8 of one node.
+pub fn check_way(links: &[u16], parents: &[u16], search: Search, u: usize) -> Verdict
+    ensures { λ r. ⌜ r ≡ wayVerdict (netOf (now (links .entry)) (now (parents .entry)) search) u ⌝ }
+{
+    let nodes = network::check_nodes(Memory::limits(), parents.len());
+    let Verdict::Taken = nodes else {
+        return nodes;
+    };
+    rows::refuse_if(is_lost(links, parents, search, u), Why::NoRoute, u)
+}
+
+// Writes the route of u from place `at` on, with `left` nodes left to go, and gives its length.
+fn write_route(
+    links: &[u16],
+    parents: &[u16],
+    search: Search,
+    left: usize,
+    u: usize,
+    row: &mut [usize],
+    at: usize,
+) -> u64
+    requires { ⌜ (left ≤ nodeLimit) × (at + left ≤ length (now row)) ⌝ }
+    ensures { λ r. ⌜ Routed (treeOf (netOf (now (links .entry)) (now (parents .entry)) search)) left u at (now (row .entry)) r (now (row .exit)) ⌝ }
+{
+    if left == 0 {
+        return 0;
+    }
+    row[at] = u;
+    if u == search.root as usize {
+        return 0;
+    }
+    let w = rise(links, parents, search, u);
+    let p = up(links, parents, search, u);
+    w as u64 + write_route(links, parents, search, left - 1, p, row, at + 1)
+}
+
+// The refusal of a verdict as an answer.
+fn no_answer(v: Verdict) -> Answer
+    ensures { λ r. ⌜ r ≡ answerIf v 0 ⌝ }
+{
+    match v {
+        Verdict::Taken => Answer::Is(0),
+        Verdict::Refused(why) => Answer::Not(why),
+    }
+}
+
+// The route of u into a lent row, and its length. Refusals 1, 8 and 10.
+pub fn route(links: &[u16], parents: &[u16], search: Search, u: usize, row: &mut [usize]) -> Answer
+    ensures { λ r. ⌜ (r ≡ routeAnswer (netOf (now (links .entry)) (now (parents .entry)) search) u (now (row .entry))) × (now (row .exit) ≡ routeRow (netOf (now (links .entry)) (now (parents .entry)) search) u (now (row .entry))) ⌝ }
+{
+    let way = check_way(links, parents, search, u);
+    let Verdict::Taken = way else {
+        return no_answer(way);
+    };
+    let c = to_root(links, parents, search, u);
+    let nodes = c.hops + 1;
+    let room = rows::refuse_if(row.len() < nodes, Why::NoRoom, 0);
+    let Verdict::Taken = room else {
+        return no_answer(room);
+    };
+    Answer::Is(write_route(links, parents, search, nodes, u, row, 0))
+}
+
+// Whether x is in the row.
+fn in_row(row: &[usize], x: usize) -> bool
+    ensures { λ r. ⌜ r ≡ has x (now (row .entry)) ⌝ }
+{
+    let mut i = 0;
+    while i < row.len() {
+        if row[i] == x {
+            return true;
+        }
+        i += 1;
+    }
+    false
+}
+
+// The climb from u to the first node of its route that is in a row that has the root.
+fn climb_onto(links: &[u16], parents: &[u16], search: Search, row: &[usize], u: usize) -> Climb
+    requires { ⌜ (length (now parents) ≤ nodeLimit) × (hasRoute (treeOf (netOf (now links) (now parents) search)) u ≡ true) × (has (search .root) (now row) ≡ true) ⌝ }
+    ensures { λ r. ⌜ Onto (treeOf (netOf (now (links .entry)) (now (parents .entry)) search)) u (now (row .entry)) r ⌝ }
+{
+    let mut c = Climb::begin(u);
+    while !in_row(row, c.node) {
+        c = c.step(links, parents, search);
+    }
+    c
+}
+
+// The climb from u to where its route meets that of z, by a work row for the way up from z.
+fn climb_to_meet(links: &[u16], parents: &[u16], search: Search, u: usize, z: usize) -> Climb
+    requires { ⌜ (length (now parents) ≤ nodeLimit) × (hasRoute (treeOf (netOf (now links) (now parents) search)) u ≡ true) × (hasRoute (treeOf (netOf (now links) (now parents) search)) z ≡ true) ⌝ }
+    ensures { λ r. ⌜ Onto (treeOf (netOf (now (links .entry)) (now (parents .entry)) search)) u (routeTo (treeOf (netOf (now (links .entry)) (now (parents .entry)) search)) z) r ⌝ }
+{
+    let mut way = [0usize; Memory::NODES];
+    let c = to_root(links, parents, search, z);
+    let nodes = c.hops + 1;
+    write_route(links, parents, search, nodes, z, &mut way, 0);
+    climb_onto(links, parents, search, &way[0..nodes], u)
+}
+
+// Refusals 1, and 8 of two nodes.
+fn check_ways(links: &[u16], parents: &[u16], search: Search, u: usize, z: usize) -> Verdict
+    ensures { λ r. ⌜ r ≡ waysVerdict (netOf (now (links .entry)) (now (parents .entry)) search) u z ⌝ }
+{
+    let one = check_way(links, parents, search, u);
+    let Verdict::Taken = one else {
+        return one;
+    };
+    check_way(links, parents, search, z)
+}
+
+// Where the routes of u and z first meet. Refusals 1, and 8 at u or z.
+pub fn meet_of(links: &[u16], parents: &[u16], search: Search, u: usize, z: usize) -> Answer
+    ensures { λ r. ⌜ r ≡ meetAnswer (netOf (now (links .entry)) (now (parents .entry)) search) u z ⌝ }
+{
+    let ways = check_ways(links, parents, search, u, z);
+    let Verdict::Taken = ways else {
+        return no_answer(ways);
+    };
+    let c = climb_to_meet(links, parents, search, u, z);
+    Answer::Is(c.node as u64)
+}
+
+// t(u,z), the length of the tree path from u to z. Refusals 1, and 8 at u or z.
+pub fn tree_distance(links: &[u16], parents: &[u16], search: Search, u: usize, z: usize) -> Answer
+    ensures { λ r. ⌜ r ≡ apartAnswer (netOf (now (links .entry)) (now (parents .entry)) search) u z ⌝ }
+{
+    let ways = check_ways(links, parents, search, u, z);
+    let Verdict::Taken = ways else {
+        return no_answer(ways);
+    };
+    let c = climb_to_meet(links, parents, search, u, z);
+    let down = to_root(links, parents, search, z);
+    let rest = to_root(links, parents, search, c.node);
+    Answer::Is(c.dist + (down.dist - rest.dist))
+}

@@ -1,0 +1,58 @@
+-- The loop that writes one number after the other at the beginning of a row. Every such loop cites this. Assumes nothing.
+use mathlib.Core.Path.{_≡_, refl, sym, ap, ap₂, _∙_}
+use mathlib.Core.List.{List, [], _∷_, _++_, append-assoc}
+use Prim.Native.Nat.{ℕ, zero, suc, _+_, _*_, _-_, _<_, _≤_}
+use native.Mathlib.Numerals.{add-one}
+use native.Mathlib.Omega.{arith}
+use lib.ListN.{length, getD, set, drop, length-append, length-drop, length-set}
+use lib.Seq.{drop-cons, set-at}
+use Rattle.rows.specs.Count.{rowsTo, rowWith}
+use Rattle.rows.proofs.Records.{rows-length}
+
+module _ (f : ℕ → ℕ) (row : List ℕ) where
+  front-length : (k : ℕ) → length (rowsTo (λ u. f u ∷ []) k) ≡ k
+  front-length k = omega (arith, rows-length (λ u. f u ∷ []) 1 (λ x. refl) k)
+
+  pub fill-start : rowWith f 0 row ≡ row
+  unfolding rowWith rowsTo
+  fill-start = refl
+
+  pub fill-length : (k : ℕ) → k ≤ length row → length (rowWith f k row) ≡ length row
+  unfolding rowWith
+  fill-length k l = omega (arith, length-append (rowsTo (λ u. f u ∷ []) k) (drop k row), front-length k, length-drop k row)
+
+  pub fill-more : (k : ℕ) → k < length row → (v : ℕ) → v ≡ f k → set (rowWith f k row) k v ≡ rowWith f (k + 1) row
+  unfolding rowWith rowsTo
+  fill-more k l v q =
+      rw (add-one k, drop-cons row k 0 l, set-at (rowsTo (λ u. f u ∷ []) k) (getD row k 0) (drop (suc k) row) v k (front-length k), q)
+      (sym (append-assoc (rowsTo (λ u. f u ∷ []) k) (f k ∷ []) (drop (suc k) row)))
+
+-- what the loop keeps: the first k numbers of n are written
+pub record Filled (f : ℕ → ℕ) (n : ℕ) (before : List ℕ) (k : ℕ) (now : List ℕ) : Type 0 where
+  pub low : k ≤ n
+  pub room : n ≤ length before
+  pub is : now ≡ rowWith f k before
+
+module _ (f : ℕ → ℕ) (n : ℕ) (before : List ℕ) where
+  pub filled-start : n ≤ length before → Filled f n before 0 before
+  filled-start l = record { low = omega arith; room = l; is = sym (fill-start f before) }
+
+  module _ (k : ℕ) (now : List ℕ) (s : Filled f n before k now) where
+    pub filled-length : length now ≡ length before
+    filled-length = ap length (s .is) ∙ fill-length f before k (omega (arith, s .low, s .room))
+
+    pub filled-room : k < n → k < length now
+    filled-room l = omega (arith, filled-length, s .room)
+
+    pub filled-more : k < n → (v : ℕ) → v ≡ f k → Filled f n before (k + 1) (set now k v)
+    filled-more l v q =
+        record {
+          low = omega arith;
+          room = s .room;
+          is = ap (λ (r : List ℕ). set r k v) (s .is) ∙ fill-more f before k (omega (arith, s .room)) v q;
+        }
+
+    pub filled-end : n ≤ k → now ≡ rowWith f n before
+    filled-end l =
+        let q : k ≡ n = omega (arith, s .low) in
+        s .is ∙ ap (λ (i : ℕ). rowWith f i before) q
