@@ -205,3 +205,8 @@ one-some p k j l h = go (someTo p k) refl
     go : (b : Bool) → someTo p k ≡ b → someTo p k ≡ true
     go true e = e
     go false e = clash h (some-none p k e j l)
+
+-- tests that agree below k find the same
+pub first-cong : (p q : ℕ → Bool) (k : ℕ) → ((j : ℕ) → j < k → p j ≡ q j) → firstTo p k ≡ firstTo q k
+unfolding firstTo
+first-cong p q k h = best-cong p q (λ a b. false) (λ a b. false) k h (λ i j l m x y. refl)

@@ -1,17 +1,32 @@
 -- The loop that writes one number after the other at the beginning of a row. Every such loop cites this. Assumes nothing.
 use mathlib.Core.Path.{_≡_, refl, sym, ap, ap₂, _∙_}
+use mathlib.Core.Bool.{Bool, true, false}
 use mathlib.Core.List.{List, [], _∷_, _++_, append-assoc}
 use Prim.Native.Nat.{ℕ, zero, suc, _+_, _*_, _-_, _<_, _≤_}
+use native.Mathlib.Nat.{not-suc-le-zero}
 use native.Mathlib.Numerals.{add-one}
 use native.Mathlib.Omega.{arith}
-use lib.ListN.{length, getD, set, drop, length-append, length-drop, length-set}
-use lib.Seq.{drop-cons, set-at}
+use lib.Dec.{eqb}
+use lib.ListN.{length, getD, set, drop, length-append, length-drop, List·getD-append}
+use borrow.Author.Tests.{eqb-true, eqb-false}
+use lib.Seq.{drop-cons, set-at, getD-at}
 use Rattle.rows.specs.Count.{rowsTo, rowWith}
 use Rattle.rows.proofs.Records.{rows-length}
 
 module _ (f : ℕ → ℕ) (row : List ℕ) where
   front-length : (k : ℕ) → length (rowsTo (λ u. f u ∷ []) k) ≡ k
   front-length k = omega (arith, rows-length (λ u. f u ∷ []) 1 (λ x. refl) k)
+
+  front-at : (k i : ℕ) → i < k → getD (rowsTo (λ u. f u ∷ []) k) i 0 ≡ f i
+  unfolding rowsTo
+  front-at zero i l = absurd (not-suc-le-zero l)
+  front-at (suc k) i l = go (front-at k i) (eqb i k) refl
+    where
+      go : (i < k → getD (rowsTo (λ u. f u ∷ []) k) i 0 ≡ f i) → (b : Bool) → eqb i k ≡ b → getD (rowsTo (λ u. f u ∷ []) k ++ (f k ∷ [])) i 0 ≡ f i
+      go ih true e = rw (eqb-true i k e) (getD-at (rowsTo (λ u. f u ∷ []) k) (f k) [] 0 k (front-length k))
+      go ih false e =
+          let low : i < k = omega (arith, eqb-false i k e) in
+          List·getD-append (rowsTo (λ u. f u ∷ []) k) (f k ∷ []) 0 i (omega (arith, front-length k)) ∙ ih low
 
   pub fill-start : rowWith f 0 row ≡ row
   unfolding rowWith rowsTo
@@ -56,3 +71,9 @@ module _ (f : ℕ → ℕ) (n : ℕ) (before : List ℕ) where
     filled-end l =
         let q : k ≡ n = omega (arith, s .low) in
         s .is ∙ ap (λ (i : ℕ). rowWith f i before) q
+
+-- a number that was written
+pub filled-at : (f : ℕ → ℕ) (n : ℕ) (row : List ℕ) (i : ℕ) → i < n → getD (rowWith f n row) i 0 ≡ f i
+unfolding rowWith
+filled-at f n row i l =
+    List·getD-append (rowsTo (λ u. f u ∷ []) n) (drop n row) 0 i (omega (arith, front-length f row n)) ∙ front-at f row n i l

@@ -4,6 +4,7 @@ use mathlib.Core.Bool.{Bool, true, false, not}
 use mathlib.Core.List.{List, [], _∷_}
 use Prim.Native.Nat.{ℕ, _<_}
 use borrow.Author.Tests.{not-false}
+use Rattle.edition.specs.declared.Limits.{Limits}
 use Rattle.edition.specs.declared.Search.{Search}
 use Rattle.edition.specs.declared.Verdict.{Verdict}
 use Rattle.edition.specs.declared.Verdict.the-variants.{Taken}
@@ -58,6 +59,11 @@ sizes-say g t1 =
       root-ok = if-taken _ BadRoot 0 (head-taken _ _ t3);
       depth-ok = if-taken _ BadDepth 0 (head-taken _ _ t4);
     }
+
+-- of numbers: 1 is among what is taken
+pub sizes-nodes : (most : Limits) (n m : ℕ) (search : Search) (v : Verdict) → most ≡ memoryLimits → v ≡ sizeVerdict most n m search → v ≡ Taken → badNodes memoryLimits n ≡ false
+unfolding sizeVerdict
+sizes-nodes most n m search v e q p = subst (λ (k : Limits). badNodes k n ≡ false) e (if-taken _ NodeCount 0 (head-taken _ _ (sym q ∙ p)))
 
 pub records-say : (g : Net) → recordVerdict g ≡ Taken → Recorded g
 unfolding recordVerdict

@@ -4,6 +4,7 @@ use mathlib.Core.List.{List, [], _∷_}
 use Prim.Native.Nat.{ℕ, _+_}
 use lib.Dec.{leb}
 use Rattle.edition.specs.declared.Verdict.{Verdict}
+use Rattle.edition.specs.declared.Verdict.the-variants.{Taken, Refused}
 use Rattle.edition.specs.declared.Why.the-variants.{BadEnds, BadMark, BadParent, NoRoute, NotShort}
 use Rattle.edition.specs.declared.Search.{Search}
 use Rattle.edition.specs.Limits.{memoryLimits}
@@ -11,6 +12,9 @@ use Rattle.rows.specs.First.{refuseAt, firstly}
 use Rattle.network.specs.declared.Link.{Link}
 use Rattle.network.specs.Network.{Net, inService}
 use Rattle.network.specs.Records.{sizeVerdict, badEnds, badMark, badParent}
+use Rattle.sound.specs.declared.Sizes.{Sizes}
+use Rattle.sound.specs.declared.Checked.{Checked}
+use Rattle.sound.specs.declared.Checked.the-variants.{Sound, Unsound}
 use Rattle.tree.specs.Tree.{Tree, treeOf, hasRoute, dist}
 
 -- 8: the node has no route to the root.
@@ -44,3 +48,12 @@ recordVerdict g =
 -- The order for a network: 1 to 9.
 unfoldable pub netVerdict : Net → Verdict
 netVerdict g = firstly (sizeVerdict memoryLimits (g .nodes) (g .links) (g .search) ∷ recordVerdict g ∷ [])
+
+-- What the check answers: how large a sound network is, or the refusal.
+abbrev pub answerOf : Verdict → Net → Checked
+answerOf Taken g = Sound (record { nodes = g .nodes; links = g .links })
+answerOf (Refused r) g = Unsound r
+
+-- The check of a network.
+unfoldable pub checked : Net → Checked
+checked g = answerOf (netVerdict g) g

@@ -1,1 +1,151 @@
-// The check of a network and its tree. Its definitions stand in specs/, what a sound network has in proofs/.
+// The check of a network and its tree: refusals 8 and 9, and 1 to 9 in their order.
+ghost use mathlib.Core.Path.{_≡_};
+ghost use mathlib.Core.Bool.{false};
+ghost use lib.ListN.{length};
+ghost use Rattle.edition.specs.Limits.{memoryLimits};
+ghost use Rattle.edition.specs.declared.Why.the-variants.{NoRoute, NotShort};
+ghost use Rattle.rows.specs.First.{firstTo, refuseAt};
+ghost use Rattle.network.specs.Network.{linksIn, linkIn, netOf};
+ghost use Rattle.network.specs.Records.{badNodes};
+ghost use Rattle.sound.specs.Sound.{noRoute, keepsShort, notShort, recordVerdict, netVerdict, checked};
+ghost use Rattle.sound.specs.Work.{breaksBy, EndsIn};
+use edition::Found;
+use edition::Memory;
+use edition::Refusal;
+use edition::Search;
+use edition::Verdict;
+use edition::Why;
+use network::Link;
+
+// How large a network is.
+pub struct Sizes {
+    pub nodes: usize,
+    pub links: usize,
+}
+
+// What the check of a network says: sound, with its sizes, or why not.
+pub enum Checked {
+    Sound(Sizes),
+    Unsound(Refusal),
+}
+
+// The lowest node without a route to the root.
+fn first_lost(links: &[u16], parents: &[u16], search: Search) -> Found
+    ensures { λ r. ⌜ r ≡ firstTo (noRoute (netOf (now (links .entry)) (now (parents .entry)) search)) (length (now (parents .entry))) ⌝ }
+{
+    let mut u = 0;
+    while u < parents.len() {
+        if !tree::has_route(links, parents, search, u) {
+            return Found::At(u);
+        }
+        u += 1;
+    }
+    Found::Nothing
+}
+
+// Refusal 8: a node has no route to the root.
+pub fn check_routes(links: &[u16], parents: &[u16], search: Search) -> Verdict
+    ensures { λ r. ⌜ r ≡ refuseAt (noRoute (netOf (now (links .entry)) (now (parents .entry)) search)) (length (now (parents .entry))) NoRoute ⌝ }
+{
+    rows::refused_at(Why::NoRoute, first_lost(links, parents, search))
+}
+
+// The two inequalities, of two distances and a length.
+pub fn keeps_short(p: u64, q: u64, w: u16) -> bool
+    ensures { λ r. ⌜ r ≡ keepsShort p q w ⌝ }
+{
+    if p < q {
+        return q - p <= w as u64;
+    }
+    p - q <= w as u64
+}
+
+// Whether the link is in service and breaks shortness, by a row of distances.
+fn breaks_by(row: &[u64], l: Link) -> bool
+    ensures { λ r. ⌜ r ≡ breaksBy (now (row .entry)) l ⌝ }
+{
+    if !network::in_service(l) {
+        return false;
+    }
+    let p = rows::wide_at(row, l.first as usize);
+    let q = rows::wide_at(row, l.second as usize);
+    !keeps_short(p, q, l.length)
+}
+
+// The lowest link that breaks shortness, by a row of distances.
+fn first_breaking(links: &[u16], row: &[u64]) -> Found
+    ensures { λ r. ⌜ r ≡ firstTo (λ e. breaksBy (now (row .entry)) (linkIn (now (links .entry)) e)) (linksIn (now (links .entry))) ⌝ }
+{
+    let mut e = 0;
+    while e < links.len() / Memory::LINK {
+        if breaks_by(row, network::link_at(links, e)) {
+            return Found::At(e);
+        }
+        e += 1;
+    }
+    Found::Nothing
+}
+
+// Refusal 9, of a network whose ends are nodes: a link in service breaks shortness.
+fn check_short(links: &[u16], parents: &[u16], search: Search) -> Verdict
+    requires { ⌜ (badNodes memoryLimits (length (now parents)) ≡ false) × EndsIn (now links) (length (now parents)) ⌝ }
+    ensures { λ r. ⌜ r ≡ refuseAt (notShort (netOf (now (links .entry)) (now (parents .entry)) search)) (linksIn (now (links .entry))) NotShort ⌝ }
+{
+    let mut row = [0u64; Memory::NODES];
+    tree::distances(links, parents, search, &mut row);
+    rows::refused_at(Why::NotShort, first_breaking(links, &row))
+}
+
+// Refusals 5 to 9, of the records.
+fn check_records(links: &[u16], parents: &[u16], search: Search) -> Verdict
+    requires { ⌜ badNodes memoryLimits (length (now parents)) ≡ false ⌝ }
+    ensures { λ r. ⌜ r ≡ recordVerdict (netOf (now (links .entry)) (now (parents .entry)) search) ⌝ }
+{
+    let ends = network::check_ends(links, parents.len());
+    let Verdict::Taken = ends else {
+        return ends;
+    };
+    let marks = network::check_marks(links);
+    let Verdict::Taken = marks else {
+        return marks;
+    };
+    let named = network::check_parents(links, parents, search);
+    let Verdict::Taken = named else {
+        return named;
+    };
+    let routes = check_routes(links, parents, search);
+    let Verdict::Taken = routes else {
+        return routes;
+    };
+    check_short(links, parents, search)
+}
+
+// Refusals 1 to 9, in their order.
+pub fn verdict(links: &[u16], parents: &[u16], search: Search) -> Verdict
+    ensures { λ r. ⌜ r ≡ netVerdict (netOf (now (links .entry)) (now (parents .entry)) search) ⌝ }
+{
+    let sizes = network::check_sizes(
+        Memory::limits(),
+        parents.len(),
+        network::links_in(links),
+        search,
+    );
+    let Verdict::Taken = sizes else {
+        return sizes;
+    };
+    check_records(links, parents, search)
+}
+
+// The check of a network and its tree: sound, with its sizes, or the first refusal of 1 to 9.
+pub fn check_network(links: &[u16], parents: &[u16], search: Search) -> Checked
+    ensures { λ r. ⌜ r ≡ checked (netOf (now (links .entry)) (now (parents .entry)) search) ⌝ }
+{
+    let said = verdict(links, parents, search);
+    match said {
+        Verdict::Taken => Checked::Sound(Sizes {
+            nodes: parents.len(),
+            links: links.len() / Memory::LINK,
+        }),
+        Verdict::Refused(why) => Checked::Unsound(why),
+    }
+}

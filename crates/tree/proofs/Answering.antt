@@ -8,7 +8,7 @@ use native.Mathlib.Omega.{arith}
 use lib.Dec.{eqb, ltb}
 use lib.ListN.{length, getD, take, drop}
 use lib.Seq.{sets, sets-eq, take-at}
-use borrow.Author.Tests.{eq-eqb, ltb-true, ltb-false, not-false}
+use borrow.Author.Tests.{eq-eqb, ltb-true, ltb-false, le-ltb, not-false}
 use Rattle.edition.specs.declared.Refusal.{Refusal}
 use Rattle.edition.specs.declared.Verdict.{Verdict}
 use Rattle.edition.specs.declared.Verdict.the-variants.{Taken, Refused}
@@ -20,7 +20,7 @@ use Rattle.rows.specs.First.{refuseIf, firstly}
 use Rattle.rows.specs.Count.{rowWith}
 use Rattle.rows.proofs.Tests.{clash, or-false, and-left, and-right}
 use Rattle.rows.proofs.Listed.{total-bound}
-use Rattle.rows.proofs.Refusing.{head-taken, rest-taken, head-refuses, head-passes, if-taken, only-one}
+use Rattle.rows.proofs.Refusing.{both-taken, none-left, if-passes, head-taken, rest-taken, head-refuses, head-passes, if-taken, only-one}
 use Rattle.network.specs.Network.{Net, netOf}
 use Rattle.network.specs.Records.{badNodes}
 use Rattle.tree.specs.declared.Climb.{Climb}
@@ -35,7 +35,7 @@ use Rattle.tree.proofs.InRows.{size-in, root-in, few}
 use Rattle.tree.proofs.Onto.{onto-meet, onto-apart}
 
 -- n is within the limit
-few-nodes : (n : ℕ) → badNodes memoryLimits n ≡ false → n ≤ nodeLimit
+pub few-nodes : (n : ℕ) → badNodes memoryLimits n ≡ false → n ≤ nodeLimit
 unfolding badNodes
 few-nodes n h = ltb-false nodeLimit n (or-false (eqb n 0) (ltb nodeLimit n) h .1)
 
@@ -44,6 +44,11 @@ pub room-taken : (n room : ℕ) → roomVerdict n room ≡ Taken → (n ≤ node
 unfolding roomVerdict
 room-taken n room h =
     (few-nodes n (if-taken _ NodeCount 0 (head-taken _ _ h)), ltb-false room n (if-taken _ NoRoom 0 (head-taken _ _ (rest-taken _ _ h))))
+
+pub room-passes : (n room : ℕ) → badNodes memoryLimits n ≡ false → n ≤ room → roomVerdict n room ≡ Taken
+unfolding roomVerdict
+room-passes n room h l =
+    both-taken _ _ (if-passes _ NodeCount 0 h) (both-taken _ _ (if-passes _ NoRoom 0 (le-ltb room n l)) none-left)
 
 -- what a node that is taken has
 pub way-taken : (g : Net) (u : ℕ) → wayVerdict g u ≡ Taken → (g .nodes ≤ nodeLimit) × (u < g .nodes) × Home (treeOf g) u

@@ -1,0 +1,92 @@
+-- `sound::check_records` meets its contract. Assumes nothing.
+use Rattle.sound.proofs.Shortness.{ends-known}
+use Rattle.network.specs.Network.{netOf}
+use mathlib.Core.Path.{_∙_, sym}
+use Rattle.rows.proofs.Refusing.{only-one}
+use Rattle.rows.specs.First.{firstly}
+use Rattle.sound.specs.Sound.{recordVerdict}
+use borrow.Author.Needs.{needs}
+use Rattle.sound.proofs.check_records.Statement.{statement}
+use Rattle.sound.proofs.check_records.Tie as tie
+
+check-ends-requires : tie.Need-check-ends-requires
+check-ends-requires c κs = search needs
+
+enum-told : tie.Need-enum-told
+enum-told c = search needs
+
+enum-told-2 : tie.Need-enum-told-2
+enum-told-2 c = search needs
+
+returns : tie.Need-returns
+unfolding recordVerdict firstly netOf
+returns c = rw (← c .before .before .check-ends .ensures, c .enum-told2 .given .1)
+
+check-marks-requires : tie.Need-check-marks-requires
+check-marks-requires c κs = search needs
+
+enum-told-3 : tie.Need-enum-told-3
+enum-told-3 c = search needs
+
+enum-told-4 : tie.Need-enum-told-4
+enum-told-4 c = search needs
+
+returns-2 : tie.Need-returns-2
+unfolding recordVerdict firstly netOf
+returns-2 c = rw (← c .before .before .before .before .before .check-ends .ensures, c .before .before .before .enum-told .given .1, ← c .before .before .check-marks .ensures, c .enum-told4 .given .1)
+
+check-parents-requires : tie.Need-check-parents-requires
+check-parents-requires c κs = search needs
+
+enum-told-5 : tie.Need-enum-told-5
+enum-told-5 c = search needs
+
+enum-told-6 : tie.Need-enum-told-6
+enum-told-6 c = search needs
+
+returns-3 : tie.Need-returns-3
+unfolding recordVerdict firstly netOf
+returns-3 c = rw (← c .before .before .before .before .before .before .before .before .check-ends .ensures, c .before .before .before .before .before .before .enum-told .given .1, ← c .before .before .before .before .before .check-marks .ensures, c .before .before .before .enum-told3 .given .1, ← c .before .before .check-parents .ensures, c .enum-told6 .given .1)
+
+check-routes-requires : tie.Need-check-routes-requires
+check-routes-requires c κs = search needs
+
+enum-told-7 : tie.Need-enum-told-7
+enum-told-7 c = search needs
+
+enum-told-8 : tie.Need-enum-told-8
+enum-told-8 c = search needs
+
+returns-4 : tie.Need-returns-4
+unfolding recordVerdict firstly netOf
+returns-4 c = rw (← c .before .before .before .before .before .before .before .before .before .before .before .check-ends .ensures, c .before .before .before .before .before .before .before .before .before .enum-told .given .1, ← c .before .before .before .before .before .before .before .before .check-marks .ensures, c .before .before .before .before .before .before .enum-told3 .given .1, ← c .before .before .before .before .before .check-parents .ensures, c .before .before .before .enum-told5 .given .1, ← c .before .before .check-routes .ensures, c .enum-told8 .given .1)
+
+check-short-requires : tie.Need-check-short-requires
+check-short-requires c κs = (c .before .before .before .before .before .before .before .before .before .before .before .before .before .before .pre, ends-known (c .before .before .before .before .before .before .before .before .before .before .before .before .before .before .args .links .now) (c .before .before .before .before .before .before .before .before .before .before .before .before .before .before .args .parents .now) (c .before .before .before .before .before .before .before .before .before .before .before .before .before .before .args .search) _ (c .before .before .before .before .before .before .before .before .before .before .before .check-ends .ensures) (c .before .before .before .before .before .before .before .before .before .enum-told .given .1))
+
+returns-5 : tie.Need-returns-5
+unfolding recordVerdict firstly netOf
+returns-5 c = rw (← c .before .before .before .before .before .before .before .before .before .before .before .before .check-ends .ensures, c .before .before .before .before .before .before .before .before .before .before .enum-told .given .1, ← c .before .before .before .before .before .before .before .before .before .check-marks .ensures, c .before .before .before .before .before .before .before .enum-told3 .given .1, ← c .before .before .before .before .before .before .check-parents .ensures, c .before .before .before .before .enum-told5 .given .1, ← c .before .before .before .check-routes .ensures, c .before .enum-told7 .given .1) (c .check-short .ensures ∙ sym (only-one _))
+
+pub check-records-spec : {M : Type 1} → statement M
+check-records-spec =
+    tie.close
+    (tie.spec
+    check-ends-requires
+    enum-told
+    enum-told-2
+    returns
+    check-marks-requires
+    enum-told-3
+    enum-told-4
+    returns-2
+    check-parents-requires
+    enum-told-5
+    enum-told-6
+    returns-3
+    check-routes-requires
+    enum-told-7
+    enum-told-8
+    returns-4
+    check-short-requires
+    returns-5)

@@ -1,0 +1,54 @@
+-- `sound::first_breaking` meets its contract. Assumes nothing.
+use Rattle.network.specs.Network.{linkIn, linksIn}
+use Rattle.sound.specs.Work.{breaksBy}
+use Rattle.rows.proofs.Seeking.{Seeking, seek-start, seek-more, seek-found, seek-none}
+use mathlib.Core.Path.{_∙_, ap}
+use Prim.Native.Nat.{_-_}
+use borrow.Author.Needs.{needs}
+use Rattle.sound.proofs.first_breaking.Statement.{statement}
+use Rattle.sound.proofs.first_breaking.Tie as tie
+
+abbrev Inv-loop : tie.InvT-loop
+Inv-loop links row e₀ e = Seeking (λ e. breaksBy row (linkIn links e)) (linksIn links) e
+
+abbrev μ-loop : tie.MeasureT-loop
+μ-loop links row e₀ e = linksIn links - e
+
+loop-holds : tie.Need-loop-holds Inv-loop μ-loop
+loop-holds c = seek-start _ _
+
+link-at-requires : tie.Need-link-at-requires Inv-loop μ-loop
+link-at-requires c κs = search needs
+
+breaks-by-requires : tie.Need-breaks-by-requires Inv-loop μ-loop
+breaks-by-requires c κs = search needs
+
+returns : tie.Need-returns Inv-loop μ-loop
+returns c = seek-found _ _ _ (c .before .before .before .before .loop .inv) (c .before .before .before .loop-test .taken) _ (c .before .breaks-by .ensures ∙ ap (breaksBy _) (c .before .before .link-at .ensures)) (c .if1 .taken)
+
+add-e : tie.Need-add-e Inv-loop μ-loop
+add-e c = search needs
+
+loop-less : tie.Need-loop-less Inv-loop μ-loop
+loop-less c = search needs
+
+loop-again : tie.Need-loop-again Inv-loop μ-loop
+loop-again c = seek-more _ _ _ (c .before .before .before .before .loop .inv) (c .before .before .before .loop-test .taken) _ (c .before .breaks-by .ensures ∙ ap (breaksBy _) (c .before .before .link-at .ensures)) (c .if1 .left)
+
+returns-2 : tie.Need-returns-2 Inv-loop μ-loop
+returns-2 c = seek-none _ _ _ (c .before .loop .inv) (c .loop-test .left)
+
+pub first-breaking-spec : {M : Type 1} → statement M
+first-breaking-spec =
+    tie.close
+    (tie.spec
+    Inv-loop
+    μ-loop
+    loop-holds
+    link-at-requires
+    breaks-by-requires
+    returns
+    add-e
+    loop-less
+    loop-again
+    returns-2)
