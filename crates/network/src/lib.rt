@@ -237,12 +237,13 @@ fn is_unfit(m: usize, e: usize, l: Link, u: usize) -> bool
 fn bad_parent(links: &[u16], parents: &[u16], search: Search, u: usize) -> bool
     ensures { λ r. ⌜ r ≡ badParent (netOf (now (links .entry)) (now (parents .entry)) search) u ⌝ }
 {
-    let e = parent_of(parents, u);
-    if u == search.root as usize {
-        return e != Edition::NO_LINK;
+    let root = search.root as usize;
+    let none = Edition::NO_LINK as usize;
+    let e = parent_of(parents, u) as usize;
+    if u == root {
+        return e != none;
     }
-    let at = e as usize;
-    is_unfit(links_in(links), at, link_at(links, at), u)
+    is_unfit(links_in(links), e, link_at(links, e), u)
 }
 
 // The lowest node with a bad parent link.

@@ -6,18 +6,21 @@ use borrow.Author.Needs.{needs}
 use Rattle.network.proofs.bad_parent.Statement.{statement}
 use Rattle.network.proofs.bad_parent.Tie as tie
 
+cast-root : tie.Need-cast-root
+cast-root c = search needs
+
+cast-none : tie.Need-cast-none
+cast-none c = search needs
+
 parent-of-requires : tie.Need-parent-of-requires
 parent-of-requires c κs = search needs
 
-cast-if1 : tie.Need-cast-if1
-cast-if1 c = search needs
+cast-e : tie.Need-cast-e
+cast-e c = search needs
 
 returns : tie.Need-returns
 unfolding badParent netOf
-returns c = rw (← c .before .before .parent-of .ensures, eq-eqb _ _ (c .if1 .taken))
-
-cast-at : tie.Need-cast-at
-cast-at c = search needs
+returns c = rw (← c .before .parent-of .ensures, eq-eqb _ _ (c .if1 .taken))
 
 links-in-requires : tie.Need-links-in-requires
 links-in-requires c κs = search needs
@@ -30,16 +33,17 @@ is-unfit-requires c κs = search needs
 
 returns-2 : tie.Need-returns-2
 unfolding badParent netOf
-returns-2 c = rw (← c .before .before .before .before .before .parent-of .ensures, ne-eqb _ _ (c .before .before .before .if1 .left), ← c .before .before .links-in .ensures, ← c .before .link-at .ensures) (c .is-unfit .ensures)
+returns-2 c = rw (← c .before .before .before .before .parent-of .ensures, ne-eqb _ _ (c .before .before .before .if1 .left), ← c .before .before .links-in .ensures, ← c .before .link-at .ensures) (c .is-unfit .ensures)
 
 pub bad-parent-spec : {M : Type 1} → statement M
 bad-parent-spec =
     tie.close
     (tie.spec
+    cast-root
+    cast-none
     parent-of-requires
-    cast-if1
+    cast-e
     returns
-    cast-at
     links-in-requires
     link-at-requires
     is-unfit-requires
