@@ -73,13 +73,13 @@ pub enum Measure {
 
 // A swap link and its cost under one measure.
 pub struct Swap {
-    pub link: u16,
+    pub link: u64,
     pub cost: u64,
 }
 
 // An entry of the table: the state of a node's tree link, and its swap link under each measure.
 pub struct Entry {
-    pub state: u16,
+    pub state: u64,
     pub sum: Swap,
     pub incr: Swap,
     pub max: Swap,
@@ -113,13 +113,13 @@ impl Edition {
     pub const WITHDRAWN: u16 = 0;
 
     // The states of an entry.
-    pub const ROOT: u16 = 0;
+    pub const ROOT: u64 = 0;
 
-    pub const SWAP: u16 = 1;
+    pub const SWAP: u64 = 1;
 
-    pub const NONE: u16 = 2;
+    pub const NONE: u64 = 2;
 
-    pub const BRIDGE: u16 = 3;
+    pub const BRIDGE: u64 = 3;
 
     // Blocks and their kinds.
     pub const BLOCK_BYTES: usize = 512;
@@ -177,17 +177,17 @@ impl Edition {
         ensures { λ r. ⌜ r ≡ noSwap ⌝ }
     {
         Swap {
-            link: Edition::NO_LINK,
+            link: Edition::NO_LINK as u64,
             cost: 0,
         }
     }
 
     // An entry without links and costs.
-    pub fn blank_entry(state: u16) -> Entry
+    pub fn blank_entry(state: u64) -> Entry
         ensures { λ r. ⌜ r ≡ blank state ⌝ }
     {
         let none = Swap {
-            link: Edition::NO_LINK,
+            link: Edition::NO_LINK as u64,
             cost: 0,
         };
         Entry {

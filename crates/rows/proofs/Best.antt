@@ -210,3 +210,24 @@ one-some p k j l h = go (someTo p k) refl
 pub first-cong : (p q : ℕ → Bool) (k : ℕ) → ((j : ℕ) → j < k → p j ≡ q j) → firstTo p k ≡ firstTo q k
 unfolding firstTo
 first-cong p q k h = best-cong p q (λ a b. false) (λ a b. false) k h (λ i j l m x y. refl)
+
+-- something is found exactly where something may stand
+abbrev pub isAt : Found → Bool
+isAt Nothing = false
+isAt (At k) = true
+
+found-next : (may : ℕ → Bool) (before : ℕ → ℕ → Bool) (k : ℕ) (m : Bool) (f : Found) → (isAt f || m) ≡ isAt (cond (m && beats before k f) (At k) f)
+unfolding beats
+found-next may before k true Nothing = refl
+found-next may before k true (At b) = go (before k b)
+  where
+    go : (t : Bool) → true ≡ isAt (cond t (At k) (At b))
+    go true = refl
+    go false = refl
+found-next may before k false Nothing = refl
+found-next may before k false (At b) = refl
+
+pub some-found : (may : ℕ → Bool) (before : ℕ → ℕ → Bool) (k : ℕ) → someTo may k ≡ isAt (bestTo may before k)
+unfolding someTo bestTo
+some-found may before zero = refl
+some-found may before (suc k) = rw (some-found may before k) (found-next may before k (may k) (bestTo may before k))

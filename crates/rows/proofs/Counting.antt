@@ -2,10 +2,10 @@
 use mathlib.Core.Path.{_≡_, refl, sym, ap, ap₂, _∙_}
 use mathlib.Core.Bool.{Bool, true, false, cond}
 use Prim.Native.Nat.{ℕ, zero, suc, _+_, _*_, _<_, _≤_, max}
-use native.Mathlib.Nat.{not-suc-le-zero, suc-mul}
+use native.Mathlib.Nat.{not-suc-le-zero, suc-mul, zero-mul, add-mul}
 use native.Mathlib.Omega.{arith}
-use lib.Dec.{eqb}
-use borrow.Author.Tests.{eqb-true, eqb-false}
+use lib.Dec.{eqb, leb}
+use borrow.Author.Tests.{eqb-true, eqb-false, leb-true, leb-false}
 use Rattle.rows.specs.Count.{sumTo, maxTo, someTo, onlyIf}
 use Rattle.rows.proofs.Tests.{lastly}
 
@@ -59,3 +59,36 @@ pub only-small : (b : Bool) (v w : ℕ) → (b ≡ true → v ≤ w) → onlyIf 
 unfolding onlyIf
 only-small true v w h = h refl
 only-small false v w h = omega arith
+
+-- sums of sums, and of one number
+pub sum-add : (f g : ℕ → ℕ) (k : ℕ) → sumTo (λ j. f j + g j) k ≡ sumTo f k + sumTo g k
+unfolding sumTo
+sum-add f g zero = refl
+sum-add f g (suc k) = omega (arith, sum-add f g k)
+
+pub sum-times : (f : ℕ → ℕ) (c k : ℕ) → sumTo (λ j. f j * c) k ≡ sumTo f k * c
+unfolding sumTo
+sum-times f c zero = sym (zero-mul c)
+sum-times f c (suc k) = omega (arith, sum-times f c k, add-mul (sumTo f k) (f k) c)
+
+-- values that add up alike at each place add up alike
+pub sum-balance : (f g p q : ℕ → ℕ) (k : ℕ) → ((j : ℕ) → j < k → f j + g j ≡ p j + q j) → sumTo f k + sumTo g k ≡ sumTo p k + sumTo q k
+sum-balance f g p q k h = sym (sum-add f g k) ∙ sum-cong (λ j. f j + g j) (λ j. p j + q j) k h ∙ sum-add p q k
+
+-- the largest value is one of them, or 0
+pub max-attained : (f : ℕ → ℕ) (k : ℕ) → 0 < maxTo f k → (j : ℕ) × (j < k) × (f j ≡ maxTo f k)
+unfolding maxTo
+max-attained f zero h = absurd (not-suc-le-zero h)
+max-attained f (suc k) h = go (max-attained f k) (leb (f k) (maxTo f k)) refl
+  where
+    go : (0 < maxTo f k → (j : ℕ) × (j < k) × (f j ≡ maxTo f k)) → (b : Bool) → leb (f k) (maxTo f k) ≡ b → (j : ℕ) × (j < suc k) × (f j ≡ max (maxTo f k) (f k))
+    go ih true e =
+        let less = leb-true (f k) (maxTo f k) e in
+        let z = ih (omega arith) in
+        (z .0, omega (arith, z .1), omega (arith, z .2))
+    go ih false e = let more = leb-false (f k) (maxTo f k) e in (k, omega arith, omega arith)
+
+pub sum-le : (f g : ℕ → ℕ) (k : ℕ) → ((j : ℕ) → j < k → f j ≤ g j) → sumTo f k ≤ sumTo g k
+unfolding sumTo
+sum-le f g zero h = omega arith
+sum-le f g (suc k) h = omega (arith, sum-le f g k (λ j l. h j (omega arith)), h k (omega arith))

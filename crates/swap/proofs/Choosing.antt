@@ -4,16 +4,17 @@ use mathlib.Core.Path.{_≡_, refl, sym, subst, ap, _∙_}
 use mathlib.Core.Bool.{Bool, true, false}
 use Prim.Native.Nat.{ℕ, _<_, _≤_}
 use native.Mathlib.Omega.{arith}
-use lib.Dec.{ltb}
-use borrow.Author.Tests.{ltb-true, ltb-false, le-ltb, lt-ltb}
+use lib.Dec.{eqb, ltb}
+use borrow.Author.Tests.{eqb-true, eqb-false, ltb-true, ltb-false, le-ltb, lt-ltb}
 use Rattle.edition.specs.declared.Found.{Found}
 use Rattle.edition.specs.declared.Found.the-variants.{Nothing, At}
 use Rattle.edition.specs.declared.Measure.{Measure}
 use Rattle.rows.specs.First.{bestTo}
 use Rattle.rows.proofs.Tests.{clash}
-use Rattle.rows.proofs.Best.{IsBest, Best, none, some, Orders, best-is, best-unique, cost-orders}
+use Rattle.rows.proofs.Best.{IsBest, Best, none, some, Orders, best-is, best-unique}
 use Rattle.network.specs.Network.{Net}
-use Rattle.swap.specs.Swap.{candidate, costOf, before, bestSwap}
+use Rattle.swap.specs.declared.Offer.{Offer}
+use Rattle.swap.specs.Swap.{candidate, costOf, offer, better, before, bestSwap}
 
 -- b is the best swap link of x under a measure
 pub record Chosen (s : Measure) (g : Net) (x b : ℕ) : Type 0 where
@@ -22,46 +23,130 @@ pub record Chosen (s : Measure) (g : Net) (x b : ℕ) : Type 0 where
   pub least : (e : ℕ) → e < g .links → candidate g x e ≡ true → costOf s g x b ≤ costOf s g x e
   pub first : (e : ℕ) → e < g .links → candidate g x e ≡ true → costOf s g x e ≡ costOf s g x b → b ≤ e
 
+-- better is an order: by cost, and by number among equal costs
+data Compared (a b : Offer) : Bool → Type 0 where
+  less : a .cost < b .cost → Compared a b true
+  lower : a .cost ≡ b .cost → a .link < b .link → Compared a b true
+  not-lower : a .cost ≡ b .cost → b .link ≤ a .link → Compared a b false
+  more : b .cost < a .cost → Compared a b false
+
+compare-offers : (a b : Offer) → Compared a b (better a b)
+unfolding better
+compare-offers a b = go (ltb (a .cost) (b .cost)) refl (eqb (a .cost) (b .cost)) refl (ltb (a .link) (b .link)) refl
+  where
+    go : (p : Bool) → ltb (a .cost) (b .cost) ≡ p → (q : Bool) → eqb (a .cost) (b .cost) ≡ q → (r : Bool) → ltb (a .link) (b .link) ≡ r → Compared a b (better a b)
+    go true h q k r m = rw h (less (ltb-true (a .cost) (b .cost) h))
+    go false h true k true m = rw (h, k, m) (lower (eqb-true (a .cost) (b .cost) k) (ltb-true (a .link) (b .link) m))
+    go false h true k false m = rw (h, k, m) (not-lower (eqb-true (a .cost) (b .cost) k) (ltb-false (a .link) (b .link) m))
+    go false h false k r m = rw (h, k) (more (omega (arith, ltb-false (a .cost) (b .cost) h, eqb-false (a .cost) (b .cost) k)))
+
+better-is : (a b : Offer) → (a .cost < b .cost) → better a b ≡ true
+better-is a b l = go (compare-offers a b)
+  where
+    go : {r : Bool} → Compared a b r → r ≡ true
+    go (less h) = refl
+    go (lower h k) = refl
+    go (not-lower h k) = absurd (omega arith)
+    go (more h) = absurd (omega arith)
+
+better-lower : (a b : Offer) → a .cost ≡ b .cost → a .link < b .link → better a b ≡ true
+better-lower a b q l = go (compare-offers a b)
+  where
+    go : {r : Bool} → Compared a b r → r ≡ true
+    go (less h) = refl
+    go (lower h k) = refl
+    go (not-lower h k) = absurd (omega arith)
+    go (more h) = absurd (omega arith)
+
+not-better : (a b : Offer) → b .cost ≤ a .cost → (a .cost ≡ b .cost → b .link ≤ a .link) → better a b ≡ false
+not-better a b l m = go (compare-offers a b)
+  where
+    go : {r : Bool} → Compared a b r → r ≡ false
+    go (less h) = absurd (omega arith)
+    go (lower h k) = absurd (omega (arith, m h))
+    go (not-lower h k) = refl
+    go (more h) = refl
+
+not-better-says : (a b : Offer) → better a b ≡ false → (b .cost ≤ a .cost) × (a .cost ≡ b .cost → b .link ≤ a .link)
+not-better-says a b e = go (compare-offers a b) e
+  where
+    go : {r : Bool} → Compared a b r → r ≡ false → (b .cost ≤ a .cost) × (a .cost ≡ b .cost → b .link ≤ a .link)
+    go (less h) z = clash refl z
+    go (lower h k) z = clash refl z
+    go (not-lower h k) z = (omega arith, λ q. k)
+    go (more h) z = (omega arith, λ q. absurd (omega arith))
+
+better-says : (a b : Offer) → better a b ≡ true → (a .cost ≤ b .cost) × (a .cost ≡ b .cost → a .link < b .link)
+better-says a b e = go (compare-offers a b) e
+  where
+    go : {r : Bool} → Compared a b r → r ≡ true → (a .cost ≤ b .cost) × (a .cost ≡ b .cost → a .link < b .link)
+    go (less h) z = (omega arith, λ q. absurd (omega arith))
+    go (lower h k) z = (omega arith, λ q. k)
+    go (not-lower h k) z = clash z refl
+    go (more h) z = clash z refl
+
+better-asym : (a b : Offer) → better a b ≡ true → better b a ≡ false
+better-asym a b e =
+    let z = better-says a b e in
+    not-better b a (z .0) (λ q. omega (arith, z .1 (sym q)))
+
+better-through : (a b c : Offer) → better b a ≡ false → better c b ≡ false → better c a ≡ false
+better-through a b c e f =
+    let y = not-better-says b a e in
+    let z = not-better-says c b f in
+    not-better c a (omega (arith, y .0, z .0))
+    (λ q. omega (arith, y .1 (omega (arith, y .0, z .0)), z .1 (omega (arith, y .0, z .0))))
+
+-- among links in number order, a later one comes before an earlier one exactly where it costs less
+pub later-before : (a b : Offer) → b .link < a .link → better a b ≡ ltb (a .cost) (b .cost)
+later-before a b l = go (compare-offers a b)
+  where
+    go : {r : Bool} → Compared a b r → r ≡ ltb (a .cost) (b .cost)
+    go (less h) = sym (lt-ltb (a .cost) (b .cost) h)
+    go (lower h k) = absurd (omega arith)
+    go (not-lower h k) = sym (le-ltb (a .cost) (b .cost) (omega arith))
+    go (more h) = sym (le-ltb (a .cost) (b .cost) (omega arith))
+
 module _ (s : Measure) (g : Net) (x : ℕ) where
   orders : Orders (before s g x)
   unfolding before
-  orders = cost-orders (costOf s g x)
+  orders =
+      record {
+        asym = λ a b. better-asym (offer s g x a) (offer s g x b);
+        through = λ a b c. better-through (offer s g x a) (offer s g x b) (offer s g x c);
+      }
 
   found : Best (candidate g x) (before s g x) (g .links) (bestSwap s g x)
   unfolding bestSwap
   found = best-is (candidate g x) (before s g x) orders (g .links)
 
   is-chosen : {b : ℕ} → IsBest (candidate g x) (before s g x) (g .links) b → Chosen s g x b
-  unfolding before
+  unfolding before offer
   is-chosen {b} i =
       record {
         low = i .low;
         stands = i .ok;
-        least = λ e l c. ltb-false (costOf s g x e) (costOf s g x b) (i .least e l c);
-        first = λ e l c q. later e c q (ltb e b) refl;
+        least = λ e l c. not-better-says (offer s g x e) (offer s g x b) (i .least e l c) .0;
+        first = λ e l c q. not-better-says (offer s g x e) (offer s g x b) (i .least e l c) .1 q;
       }
-    where
-      later : (e : ℕ) → candidate g x e ≡ true → costOf s g x e ≡ costOf s g x b → (t : Bool) → ltb e b ≡ t → b ≤ e
-      later e c q false h = ltb-false e b h
-      later e c q true h = absurd (omega (arith, ltb-true (costOf s g x b) (costOf s g x e) (i .first e (ltb-true e b h) c)))
 
   is-best : {b : ℕ} → Chosen s g x b → IsBest (candidate g x) (before s g x) (g .links) b
-  unfolding before
+  unfolding before offer
   is-best {b} c =
       record {
         low = c .low;
         ok = c .stands;
-        least = λ e l m. le-ltb (costOf s g x e) (costOf s g x b) (c .least e l m);
-        first = λ e l m. lt-ltb (costOf s g x b) (costOf s g x e) (less e l m (ltb (costOf s g x b) (costOf s g x e)) refl);
+        least = λ e l m. not-better (offer s g x e) (offer s g x b) (c .least e l m) (c .first e l m);
+        first = λ e l m. comes e l m (eqb (costOf s g x b) (costOf s g x e)) refl;
       }
     where
-      less : (e : ℕ) → e < b → candidate g x e ≡ true → (t : Bool) → ltb (costOf s g x b) (costOf s g x e) ≡ t → costOf s g x b < costOf s g x e
-      less e l m true h = ltb-true (costOf s g x b) (costOf s g x e) h
-      less e l m false h =
+      comes : (e : ℕ) → e < b → candidate g x e ≡ true → (t : Bool) → eqb (costOf s g x b) (costOf s g x e) ≡ t → better (offer s g x b) (offer s g x e) ≡ true
+      comes e l m true h =
           let under : e < g .links = omega (arith, c .low) in
-          let most = ltb-false (costOf s g x b) (costOf s g x e) h in
-          let same : costOf s g x e ≡ costOf s g x b = omega (arith, c .least e under m) in
-          absurd (omega (arith, c .first e under m same))
+          absurd (omega (arith, c .first e under m (sym (eqb-true (costOf s g x b) (costOf s g x e) h))))
+      comes e l m false h =
+          let under : e < g .links = omega (arith, c .low) in
+          better-is (offer s g x b) (offer s g x e) (omega (arith, c .least e under m, eqb-false (costOf s g x b) (costOf s g x e) h))
 
   -- what is found is the best
   pub chosen : (b : ℕ) → bestSwap s g x ≡ At b → Chosen s g x b

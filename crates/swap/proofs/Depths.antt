@@ -20,7 +20,7 @@ use Rattle.tree.specs.Tree.{Tree, treeOf, under, hops}
 use Rattle.tree.proofs.Bounded.{hops-few}
 use Rattle.sound.proofs.Sounds.{Sound}
 use Rattle.sound.proofs.Holding.{nodes-few, first-in, second-in, home, up-in}
-use Rattle.swap.specs.Swap.{lower, crosses, within, candidate, costOf, before, bestSwap}
+use Rattle.swap.specs.Swap.{lower, crosses, within, candidate, costOf, offer, before, bestSwap}
 use Rattle.swap.specs.Entry.{crossed, saved, stateBelow, priced, swapOf, entry}
 use Rattle.swap.proofs.Costing.{crossing-splits, of-lower}
 
@@ -63,7 +63,7 @@ module _ (g : Net) (s : Sound g) (x : ℕ) (far : eqb x (g .search .root) ≡ fa
   same-candidates e l = both-within e l (crosses (treeOf g) x e (g .link e)) refl
 
   same-best : (m : Measure) → bestSwap m (atDepth g depthLimit) x ≡ bestSwap m (atDepth g wholeSearch) x
-  unfolding bestSwap before costOf atDepth treeOf
+  unfolding bestSwap before offer costOf atDepth treeOf
   same-best m = best-cong _ _ _ _ (g .links) same-candidates (λ i j l k p q. refl)
 
   same-swap : (m : Measure) → swapOf m (atDepth g depthLimit) x ≡ swapOf m (atDepth g wholeSearch) x

@@ -1,2 +1,4 @@
 pub mod Swap
 pub mod Entry
+pub mod Fold
+pub mod Prefix

@@ -12,6 +12,7 @@ use Rattle.rows.specs.First.{bestTo}
 use Rattle.rows.specs.Lists.{differ}
 use Rattle.network.specs.declared.Link.{Link}
 use Rattle.network.specs.Network.{Net, inService}
+use Rattle.swap.specs.declared.Offer.{Offer}
 use Rattle.tree.specs.Tree.{Tree, treeOf, dist, under, hops, apart}
 
 -- z, the end of a link that is in T(x).
@@ -55,9 +56,17 @@ cost Max t x l = maxTo (inside t x (newDist t x l)) (t .size)
 unfoldable pub costOf : Measure → Net → ℕ → ℕ → ℕ
 costOf s g x e = cost s (treeOf g) x (g .link e)
 
--- One candidate comes before another where it costs less.
+-- A candidate under a measure: its link number, its cost, and its incr cost.
+unfoldable pub offer : Measure → Net → ℕ → ℕ → Offer
+offer s g x e = record { link = e; cost = costOf s g x e; incr = costOf Incr g x e }
+
+-- One candidate is better than another where it costs less, or as much and has the lower number.
+unfoldable pub better : Offer → Offer → Bool
+better a b = ltb (a .cost) (b .cost) || (eqb (a .cost) (b .cost) && ltb (a .link) (b .link))
+
+-- Link e comes before link f.
 unfoldable pub before : Measure → Net → ℕ → ℕ → ℕ → Bool
-before s g x e f = ltb (costOf s g x e) (costOf s g x f)
+before s g x e f = better (offer s g x e) (offer s g x f)
 
 -- The candidate of least cost, the lowest link number among equals.
 unfoldable pub bestSwap : Measure → Net → ℕ → Found

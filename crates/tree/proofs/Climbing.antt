@@ -18,7 +18,7 @@ use Rattle.tree.specs.declared.Climb.{Climb}
 use Rattle.tree.specs.Tree.{Tree, climb, route, arrives, hasRoute, dist, under, hops, wayUp}
 use Rattle.tree.specs.Answers.{begun, stepped}
 use Rattle.tree.specs.Work.{Rooted, Along}
-use Rattle.tree.proofs.Ways.{Home, way, route-step, route-length, home-up, home-step, route-cut, under-self, under-trans, before-longer, hops-cut, way-head}
+use Rattle.tree.proofs.Ways.{Way, top, hop, Home, way, route-step, route-length, home-up, home-step, route-cut, under-self, under-trans, before-longer, after-shorter, hops-cut, way-head}
 
 -- a sum that is small enough is kept
 pub kept : (v : ℕ) → v < 2 ^ 64 → v % 2 ^ 64 ≡ v
@@ -166,7 +166,7 @@ module _ (t : Tree) where
     pub shorter : length (route t x) ≡ suc (length (route t (t .up x)))
     shorter = ap length step-route
 
-    up-above : under t (t .up x) x ≡ true
+    pub up-above : under t (t .up x) x ≡ true
     unfolding under has
     up-above = rw step-route (or-right (eqb x (t .up x)) (has (t .up x) (route t (t .up x))) (under-self t (t .up x) up-home))
 
@@ -234,3 +234,23 @@ module _ (t : Tree) where
         hops-is = omega (arith, ap length (start-cut u h));
         dist-is = omega (arith, ap (total (t .rise)) (start-cut u h));
       })
+
+  -- what holds of z, and of the parent of each node on the route of z of which it holds, holds all along the route
+  module _ (P : ℕ → Type 0) (z : ℕ) (hz : Home t z) (step : (x : ℕ) → under t x z ≡ true → eqb x (t .root) ≡ false → P x → P (t .up x)) where
+    way-all : {v : ℕ} {r : List ℕ} → Way t v r → under t v z ≡ true → P v → (x : ℕ) → has x r ≡ true → P x
+    unfolding has
+    way-all (top {u} e) o p x h = either (eqb u x) false h (λ q. subst P (eqb-true u x q) p) (λ q c. clash c refl)
+    way-all (hop {u} {r} e w) o p x h =
+        either (eqb u x) (has x r) h
+        (λ q. subst P (eqb-true u x q) p)
+        (λ q c. way-all w (on-parent z hz u o e) (step u o e p) x c)
+
+    pub along-all : P z → (x : ℕ) → under t x z ≡ true → P x
+    unfolding under
+    along-all p x h = way-all (way t z hz) (under-self t z hz) p x h
+
+  -- the parent of a node is not below it
+  pub below-not : (x : ℕ) → Home t x → eqb x (t .root) ≡ false → under t x (t .up x) ≡ false
+  below-not x h e =
+      not-so (under t x (t .up x))
+      (λ p. omega (arith, after-shorter t (t .up x) x (home-step t x h e) h p, shorter x h x (under-self t x h) e))

@@ -63,7 +63,7 @@ module _ (t : Tree) where
   way-before e (hop {u} {r} q w) f = head-before u e r f
 
   -- two nodes that are under each other are one
-  under-both : (c e : ℕ) → Home t c → Home t e → under t c e ≡ true → under t e c ≡ true → c ≡ e
+  pub under-both : (c e : ℕ) → Home t c → Home t e → under t c e ≡ true → under t e c ≡ true → c ≡ e
   under-both c e hc he p q = go (has c (upTo e (route t c))) refl
     where
       go : (b : Bool) → has c (upTo e (route t c)) ≡ b → c ≡ e

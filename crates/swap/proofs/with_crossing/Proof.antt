@@ -1,0 +1,16 @@
+-- `swap::with_crossing` meets its contract. Assumes nothing.
+use borrow.Author.Tests.{eq-eqb, ne-eqb}
+use Rattle.swap.specs.Prefix.{offered}
+use Rattle.swap.proofs.with_crossing.Statement.{statement}
+use Rattle.swap.proofs.with_crossing.Tie as tie
+
+returns : tie.Need-returns
+unfolding offered
+returns c = rw (eq-eqb _ _ (c .if1 .taken)) (λ i. record { state = c .if1 .taken i; sum = c .before .before .args .old .sum; incr = c .before .before .args .old .incr; max = c .before .before .args .old .max })
+
+returns-2 : tie.Need-returns-2
+unfolding offered
+returns-2 c = rw (ne-eqb _ _ (c .before .before .before .if1 .left))
+
+pub with-crossing-spec : {M : Type 1} → statement M
+with-crossing-spec = tie.close (tie.spec returns returns-2)
