@@ -1,1 +1,126 @@
-// The table of all entries and the unprotected map. The definitions stand in specs/.
+// The table of all entries and the unprotected map.
+ghost use mathlib.Core.Path.{_≡_};
+ghost use Prim.Native.Nat.{ℕ, _+_, _*_, _<_, _≤_, _^_, max};
+ghost use lib.ListN.{length, getD};
+ghost use Rattle.edition.specs.declared.Verdict.the-variants.{Taken};
+ghost use Rattle.network.specs.Network.{netOf};
+ghost use Rattle.rows.specs.Count.{rowWith};
+ghost use Rattle.tree.specs.Tree.{treeOf, dist};
+ghost use Rattle.sound.specs.Sound.{netVerdict};
+ghost use Rattle.swap.specs.Fold.{count as countOf, weight as weightOf, stem, base as baseOf, turn as turnOf};
+ghost use Rattle.table.specs.Work.{Holds, FoldedAt, Foldable, Added, Counted};
+use edition::Search;
+
+// The larger of two numbers.
+fn larger(a: u64, b: u64) -> u64
+    ensures { λ r. ⌜ r ≡ max a b ⌝ }
+{
+    if a < b { b } else { a }
+}
+
+// Node c counts one more, weighs v more and is at least as deep as v.
+fn fold_at(count: &mut [u64], weight: &mut [u64], deep: &mut [u64], c: usize, v: u64)
+    requires { ⌜ (c < length (now count)) × (c < length (now weight)) × (c < length (now deep)) × (getD (now count) c 0 + 1 < 2 ^ 64) × (getD (now weight) c 0 + v < 2 ^ 64) ⌝ }
+    ensures { λ _. ⌜ FoldedAt c v (now (count .entry)) (now (weight .entry)) (now (deep .entry)) (now (count .exit)) (now (weight .exit)) (now (deep .exit)) ⌝ }
+{
+    count[c] = count[c] + 1;
+    weight[c] = weight[c] + v;
+    deep[c] = larger(deep[c], v);
+}
+
+// Each node of the route of u counts one more, weighs v more and is at least as deep as v.
+fn fold_up(
+    links: &[u16],
+    parents: &[u16],
+    search: Search,
+    count: &mut [u64],
+    weight: &mut [u64],
+    deep: &mut [u64],
+    u: usize,
+    v: u64,
+)
+    requires { ⌜ (netVerdict (netOf (now links) (now parents) search) ≡ Taken) × Foldable (length (now parents)) u v (now count) (now weight) (now deep) ⌝ }
+    ensures { λ _. ⌜ Added (treeOf (netOf (now (links .entry)) (now (parents .entry)) search)) u v (now (count .entry)) (now (weight .entry)) (now (deep .entry)) (now (count .exit)) (now (weight .exit)) (now (deep .exit)) ⌝ }
+{
+    let mut c = u;
+    while c != search.root as usize {
+        fold_at(count, weight, deep, c, v);
+        c = tree::up(links, parents, search, c);
+    }
+    fold_at(count, weight, deep, c, v);
+}
+
+// Count, weight and depth of every node's subtree, by one climb a node. The rows begin with zeros.
+fn fold_all(
+    links: &[u16],
+    parents: &[u16],
+    search: Search,
+    near: &[u64],
+    count: &mut [u64],
+    weight: &mut [u64],
+    deep: &mut [u64],
+)
+    requires { ⌜ (netVerdict (netOf (now links) (now parents) search) ≡ Taken) × Holds (length (now parents)) (dist (treeOf (netOf (now links) (now parents) search))) (now near) × Counted (treeOf (netOf (now links) (now parents) search)) 0 (now count) (now weight) (now deep) ⌝ }
+    ensures { λ _. ⌜ Counted (treeOf (netOf (now (links .entry)) (now (parents .entry)) search)) (length (now (parents .entry))) (now (count .exit)) (now (weight .exit)) (now (deep .exit)) ⌝ }
+{
+    let mut u = 0;
+    while u < parents.len() {
+        fold_up(links, parents, search, count, weight, deep, u, near[u]);
+        u += 1;
+    }
+}
+
+// A product that fits.
+fn product(a: u64, b: u64) -> u64
+    requires { ⌜ a * b < 2 ^ 64 ⌝ }
+    ensures { λ r. ⌜ r ≡ a * b ⌝ }
+{
+    a * b
+}
+
+// The stem of x: for each step of its route, the nodes that the parent has more, at the parent's distance.
+fn stem_of(
+    links: &[u16],
+    parents: &[u16],
+    search: Search,
+    near: &[u64],
+    count: &[u64],
+    x: usize,
+) -> u64
+    requires { ⌜ (netVerdict (netOf (now links) (now parents) search) ≡ Taken) × Holds (length (now parents)) (dist (treeOf (netOf (now links) (now parents) search))) (now near) × Holds (length (now parents)) (countOf (treeOf (netOf (now links) (now parents) search))) (now count) × (x < length (now parents)) ⌝ }
+    ensures { λ r. ⌜ r ≡ stem (treeOf (netOf (now (links .entry)) (now (parents .entry)) search)) x ⌝ }
+{
+    let mut c = x;
+    let mut sum: u64 = 0;
+    while c != search.root as usize {
+        let p = tree::up(links, parents, search, c);
+        let more = rows::wide_at(count, p) - rows::wide_at(count, c);
+        sum = sum + product(more, rows::wide_at(near, p));
+        c = p;
+    }
+    sum
+}
+
+// The two numbers of every node by which a sum is known: base for the node that fails, turn for the lower end.
+fn fill_bases(
+    links: &[u16],
+    parents: &[u16],
+    search: Search,
+    near: &[u64],
+    count: &[u64],
+    weight: &[u64],
+    base: &mut [u64],
+    turn: &mut [u64],
+)
+    requires { ⌜ (netVerdict (netOf (now links) (now parents) search) ≡ Taken) × Holds (length (now parents)) (dist (treeOf (netOf (now links) (now parents) search))) (now near) × Holds (length (now parents)) (countOf (treeOf (netOf (now links) (now parents) search))) (now count) × Holds (length (now parents)) (weightOf (treeOf (netOf (now links) (now parents) search))) (now weight) × (length (now parents) ≤ length (now base)) × (length (now parents) ≤ length (now turn)) ⌝ }
+    ensures { λ _. ⌜ (now (base .exit) ≡ rowWith (baseOf (treeOf (netOf (now (links .entry)) (now (parents .entry)) search))) (length (now (parents .entry))) (now (base .entry))) × (now (turn .exit) ≡ rowWith (turnOf (treeOf (netOf (now (links .entry)) (now (parents .entry)) search))) (length (now (parents .entry))) (now (turn .entry))) ⌝ }
+{
+    let mut x = 0;
+    while x < parents.len() {
+        let stem = stem_of(links, parents, search, near, count, x);
+        let own = product(rows::wide_at(count, x), rows::wide_at(near, x));
+        base[x] = rows::wide_at(weight, x) + 2 * stem;
+        turn[x] = 2 * (own + stem);
+        x += 1;
+    }
+}

@@ -170,7 +170,7 @@ module _ (t : Tree) where
     unfolding under has
     up-above = rw step-route (or-right (eqb x (t .up x)) (has (t .up x) (route t (t .up x))) (under-self t (t .up x) up-home))
 
-    on-parent : under t (t .up x) u ≡ true
+    pub on-parent : under t (t .up x) u ≡ true
     on-parent = under-trans t x (t .up x) u hu px up-above
 
     not-before : has (t .up x) (upTo x (route t u)) ≡ false
