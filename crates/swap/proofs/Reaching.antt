@@ -64,14 +64,14 @@ module _ (t : Tree) (all : (u : ℕ) → u < t .size → Home t u) where
     unfolding beside onlyIf
     beside-is u e f = rw (e, f)
 
-    beside-reach : (u : ℕ) → u < t .size → under t (t .up x) u ≡ true → under t x u ≡ false → dist t u ≤ aside t x
+    pub beside-reach : (u : ℕ) → u < t .size → under t (t .up x) u ≡ true → under t x u ≡ false → dist t u ≤ aside t x
     unfolding aside
     beside-reach u l e f = rw (← beside-is u e f) (max-reach (λ u. onlyIf (beside t x u) (dist t u)) (t .size) u l)
 
     pub aside-more : dist t (t .up x) ≤ aside t x
     aside-more = beside-reach (t .up x) lp (under-self t (t .up x) hp) x-not
 
-    beside-bound : (b : ℕ) → ((u : ℕ) → u < t .size → under t (t .up x) u ≡ true → under t x u ≡ false → dist t u ≤ b) → aside t x ≤ b
+    pub beside-bound : (b : ℕ) → ((u : ℕ) → u < t .size → under t (t .up x) u ≡ true → under t x u ≡ false → dist t u ≤ b) → aside t x ≤ b
     unfolding aside beside
     beside-bound b h =
         max-bound (λ u. onlyIf (beside t x u) (dist t u)) (t .size) b

@@ -1,3 +1,6 @@
 pub mod Moving
 pub mod Counts
 pub mod Stems
+pub mod Besides
+pub mod Passing
+pub mod BothSides

@@ -1,13 +1,14 @@
 -- What private functions of this crate promise each other. No public promise cites this page. Assumes nothing.
 use mathlib.Core.Path.{_≡_}
-use mathlib.Core.Bool.{Bool, true, cond}
+use mathlib.Core.Bool.{Bool, true, false, cond, not, _&&_}
 use mathlib.Core.List.{List}
-use Prim.Native.Nat.{ℕ, _+_, _*_, _^_, _<_, _≤_, max}
+use Prim.Native.Nat.{ℕ, _+_, _*_, _-_, _^_, _<_, _≤_, max}
+use lib.Dec.{eqb}
 use lib.ListN.{length, getD, set}
-use Rattle.rows.specs.Count.{sumTo, maxTo}
+use Rattle.rows.specs.Count.{sumTo, maxTo, onlyIf}
 use Rattle.tree.specs.Tree.{Tree, dist, under}
 use Rattle.swap.specs.Swap.{inside}
-use Rattle.swap.specs.Fold.{stem}
+use Rattle.swap.specs.Fold.{stem, deepest, aside}
 
 -- a row holds f of each node
 pub record Holds (n : ℕ) (f : ℕ → ℕ) (row : List ℕ) : Type 0 where
@@ -50,3 +51,33 @@ pub record Counted (t : Tree) (k : ℕ) (count weight deep : List ℕ) : Type 0 
 pub record Stemming (t : Tree) (x c sum : ℕ) : Type 0 where
   pub on : under t c x ≡ true
   pub left : sum + stem t c ≡ stem t x
+
+-- is y a child of p?
+unfoldable pub child : Tree → ℕ → ℕ → Bool
+child t p y = not (eqb y (t .root)) && eqb (t .up y) p
+
+-- place j of n, from the front or from the back
+unfoldable pub placed : Bool → ℕ → ℕ → ℕ
+placed back n j = cond back (n - 1 - j) j
+
+-- one node c of a pass: it is raised to the largest so far at its parent, and the parent to what is deepest below c
+pub record Raised (t : Tree) (n c : ℕ) (most out most′ out′ : List ℕ) : Type 0 where
+  pub most-size : length most′ ≡ length most
+  pub out-size : length out′ ≡ length out
+  pub most-is : (q : ℕ) → q < n → getD most′ q 0 ≡ max (getD most q 0) (onlyIf (child t q c) (deepest t c))
+  pub out-is : eqb c (t .root) ≡ false → getD out′ c 0 ≡ max (getD out c 0) (getD most (t .up c) 0)
+  pub out-other : (x : ℕ) → (x ≡ c → ⊥) → getD out′ x 0 ≡ getD out x 0
+
+-- the deepest below the child of q that stands at place i
+unfoldable pub kid : Tree → Bool → ℕ → ℕ → ℕ → ℕ
+kid t back n q i = onlyIf (child t q (placed back n i)) (deepest t (placed back n i))
+
+-- a whole pass: each node is raised to its parent's first number and to what is deepest below its siblings before it
+pub record Passed (t : Tree) (back : Bool) (n : ℕ) (most out out′ : List ℕ) : Type 0 where
+  pub size : length out′ ≡ length out
+  pub each : (x : ℕ) → x < n → eqb x (t .root) ≡ false → getD out′ x 0 ≡ max (getD out x 0) (max (getD most (t .up x) 0) (maxTo (kid t back n (t .up x)) (placed back n x)))
+
+-- a row holds what is beside each node but the root
+pub record Asides (t : Tree) (n : ℕ) (row : List ℕ) : Type 0 where
+  pub room : n ≤ length row
+  pub each : (x : ℕ) → x < n → eqb x (t .root) ≡ false → getD row x 0 ≡ aside t x

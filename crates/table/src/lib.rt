@@ -7,8 +7,9 @@ ghost use Rattle.network.specs.Network.{netOf};
 ghost use Rattle.rows.specs.Count.{rowWith};
 ghost use Rattle.tree.specs.Tree.{treeOf, dist};
 ghost use Rattle.sound.specs.Sound.{netVerdict};
-ghost use Rattle.swap.specs.Fold.{count as countOf, weight as weightOf, stem, base as baseOf, turn as turnOf};
-ghost use Rattle.table.specs.Work.{Holds, FoldedAt, Foldable, Added, Counted};
+ghost use Rattle.swap.specs.Fold.{count as countOf, weight as weightOf, stem, base as baseOf, turn as turnOf, deepest};
+ghost use Rattle.table.specs.Work.{Holds, FoldedAt, Foldable, Added, Counted, placed, Raised, Passed, Asides};
+use edition::Memory;
 use edition::Search;
 
 // The larger of two numbers.
@@ -123,4 +124,69 @@ fn fill_bases(
         turn[x] = 2 * (own + stem);
         x += 1;
     }
+}
+
+// Place j of n, from the front or from the back.
+fn place(n: usize, j: usize, back: bool) -> usize
+    requires { ⌜ j < n ⌝ }
+    ensures { λ r. ⌜ r ≡ placed back n j ⌝ }
+{
+    if back {
+        return n - 1 - j;
+    }
+    j
+}
+
+// One node of a pass: it is raised to the largest so far at its parent, and the parent to what is deepest below it.
+fn raise_at(
+    links: &[u16],
+    parents: &[u16],
+    search: Search,
+    deep: &[u64],
+    most: &mut [u64],
+    out: &mut [u64],
+    c: usize,
+)
+    requires { ⌜ (netVerdict (netOf (now links) (now parents) search) ≡ Taken) × Holds (length (now parents)) (deepest (treeOf (netOf (now links) (now parents) search))) (now deep) × (length (now parents) ≤ length (now most)) × (length (now parents) ≤ length (now out)) × (c < length (now parents)) ⌝ }
+    ensures { λ _. ⌜ Raised (treeOf (netOf (now (links .entry)) (now (parents .entry)) search)) (length (now (parents .entry))) c (now (most .entry)) (now (out .entry)) (now (most .exit)) (now (out .exit)) ⌝ }
+{
+    if c == search.root as usize {
+        return;
+    }
+    let p = tree::up(links, parents, search, c);
+    out[c] = larger(out[c], most[p]);
+    most[p] = larger(most[p], rows::wide_at(deep, c));
+}
+
+// A pass over all nodes in number order, or from the back.
+fn pass(
+    links: &[u16],
+    parents: &[u16],
+    search: Search,
+    deep: &[u64],
+    back: bool,
+    most: &mut [u64],
+    out: &mut [u64],
+)
+    requires { ⌜ (netVerdict (netOf (now links) (now parents) search) ≡ Taken) × Holds (length (now parents)) (deepest (treeOf (netOf (now links) (now parents) search))) (now deep) × (length (now parents) ≤ length (now most)) × (length (now parents) ≤ length (now out)) ⌝ }
+    ensures { λ _. ⌜ Passed (treeOf (netOf (now (links .entry)) (now (parents .entry)) search)) back (length (now (parents .entry))) (now (most .entry)) (now (out .entry)) (now (out .exit)) ⌝ }
+{
+    let mut j = 0;
+    while j < parents.len() {
+        let c = place(parents.len(), j, back);
+        raise_at(links, parents, search, deep, most, out, c);
+        j += 1;
+    }
+}
+
+// What is beside every node but the root, by a pass from either side. The row begins with zeros.
+fn fill_asides(links: &[u16], parents: &[u16], search: Search, deep: &[u64], out: &mut [u64])
+    requires { ⌜ (netVerdict (netOf (now links) (now parents) search) ≡ Taken) × Holds (length (now parents)) (deepest (treeOf (netOf (now links) (now parents) search))) (now deep) × Holds (length (now parents)) (λ x. 0) (now out) ⌝ }
+    ensures { λ _. ⌜ Asides (treeOf (netOf (now (links .entry)) (now (parents .entry)) search)) (length (now (parents .entry))) (now (out .exit)) ⌝ }
+{
+    let mut first = [0u64; Memory::NODES];
+    tree::distances(links, parents, search, &mut first);
+    pass(links, parents, search, deep, false, &mut first, out);
+    let mut second = [0u64; Memory::NODES];
+    pass(links, parents, search, deep, true, &mut second, out);
 }

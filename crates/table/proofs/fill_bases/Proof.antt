@@ -1,4 +1,9 @@
 -- `table::fill_bases` meets its contract. Assumes nothing.
+use Prim.Native.Nat.{_-_}
+use mathlib.Core.Path.{_∙_, ap}
+use lib.ListN.{length}
+use Rattle.tree.proofs.InRows.{treeIn}
+-- `table::fill_bases` meets its contract. Assumes nothing.
 use Rattle.swap.specs.Fold.{base, turn}
 use Prim.Native.Nat.{_-_}
 use mathlib.Core.Path.{_∙_, ap}
@@ -12,7 +17,7 @@ use Rattle.table.proofs.fill_bases.Statement.{statement}
 use Rattle.table.proofs.fill_bases.Tie as tie
 
 abbrev Inv-loop : tie.InvT-loop
-Inv-loop links parents search near count weight base₀ turn₀ x₀ base turn x = Filled (Rattle.swap.specs.Fold.base (treeIn links parents search)) (length parents) base₀ x base × Filled (Rattle.swap.specs.Fold.turn (treeIn links parents search)) (length parents) turn₀ x turn
+Inv-loop links parents search near count weight base₀ turn₀ x₀ base turn x = Filled (λ v. Rattle.swap.specs.Fold.base (treeIn links parents search) v) (length parents) base₀ x base × Filled (λ v. Rattle.swap.specs.Fold.turn (treeIn links parents search) v) (length parents) turn₀ x turn
 
 abbrev μ-loop : tie.MeasureT-loop
 μ-loop links parents search near count weight base₀ turn₀ x₀ base turn x = length parents - x
