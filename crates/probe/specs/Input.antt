@@ -1,0 +1,33 @@
+-- What the bytes of a case say. Assumes nothing.
+use mathlib.Core.Bool.{Bool, cond}
+use mathlib.Core.List.{List}
+use Prim.Native.Nat.{ℕ, _+_, _*_}
+use lib.ListN.{getD}
+use Rattle.rows.specs.Count.{rowWith}
+use Rattle.probe.specs.declared.input.Head.{Head}
+
+-- Word i of bytes, the high byte first.
+unfoldable pub wordIn : List ℕ → ℕ → ℕ
+wordIn raw i = getD raw (2 * i) 0 * 256 + getD raw (2 * i + 1) 0
+
+-- Words i and i + 1 as one number, the high word first.
+unfoldable pub longIn : List ℕ → ℕ → ℕ
+longIn raw i = wordIn raw i * 65536 + wordIn raw (i + 1)
+
+-- The head that bytes are.
+unfoldable pub headIn : List ℕ → Head
+headIn raw =
+    record {
+      op = wordIn raw 0;
+      parents = wordIn raw 1;
+      rest = longIn raw 2;
+      room = longIn raw 4;
+      search = record { root = wordIn raw 6; depth = wordIn raw 7 };
+      a = wordIn raw 8;
+      b = wordIn raw 9;
+      c = wordIn raw 10;
+    }
+
+-- A row after n words were asked for: with the words of the bytes at its beginning where they came, as it was where not.
+unfoldable pub rowRead : Bool → List ℕ → ℕ → List ℕ → List ℕ
+rowRead came raw n row = cond came (rowWith (wordIn raw) n row) row

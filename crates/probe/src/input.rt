@@ -1,0 +1,172 @@
+// What is read: the heads of cases, and the words and bytes behind them.
+ghost use mathlib.Core.Path.{_≡_};
+ghost use Prim.Native.Nat.{_+_, _*_, _≤_, _<_};
+ghost use lib.ListN.{length, take};
+ghost use Rattle.rows.specs.Count.{rowWith};
+ghost use Rattle.probe.specs.Input.{wordIn, longIn, headIn, rowRead};
+use crate::limits::BYTES;
+use crate::limits::HEAD;
+use crate::limits::LINKS;
+use crate::limits::PARENTS;
+use crate::limits::ROOM;
+use crate::ops;
+use edition::Search;
+
+// The head of a case: its op, how many parents and how much else follow, how much room is lent, and the numbers that the
+// caller states.
+pub struct Head {
+    pub op: u16,
+    pub parents: usize,
+    pub rest: usize,
+    pub room: usize,
+    pub search: Search,
+    pub a: u16,
+    pub b: u16,
+    pub c: u16,
+}
+
+// A head, or the end of the input.
+pub enum Heading {
+    Is(Head),
+    End,
+}
+
+// Word i of the bytes, the high byte first.
+fn word(raw: &[u8], i: usize) -> u16
+    requires { ⌜ 2 * i + 1 < length (now raw) ⌝ }
+    ensures { λ r. ⌜ r ≡ wordIn (now (raw .entry)) i ⌝ }
+{
+    let high = raw[2 * i] as u16;
+    let low = raw[2 * i + 1] as u16;
+    high * 256 + low
+}
+
+// Words i and i + 1 as one number, the high word first.
+fn long(raw: &[u8], i: usize) -> usize
+    requires { ⌜ 2 * i + 3 < length (now raw) ⌝ }
+    ensures { λ r. ⌜ r ≡ longIn (now (raw .entry)) i ⌝ }
+{
+    let high = word(raw, i) as usize;
+    let low = word(raw, i + 1) as usize;
+    high * 65536 + low
+}
+
+// The head that these bytes are.
+fn head_of(raw: &[u8; 2 * HEAD]) -> Head
+    ensures { λ r. ⌜ r ≡ headIn (now (raw .entry)) ⌝ }
+{
+    let search = Search {
+        root: word(raw, 6),
+        depth: word(raw, 7),
+    };
+    Head {
+        op: word(raw, 0),
+        parents: word(raw, 1) as usize,
+        rest: long(raw, 2),
+        room: long(raw, 4),
+        search,
+        a: word(raw, 8),
+        b: word(raw, 9),
+        c: word(raw, 10),
+    }
+}
+
+// Reads the head of the next case.
+pub fn read_head() -> Heading {
+    let mut raw = [0u8; 2 * HEAD];
+    if io::read_full(libc::STDIN_FILENO, &mut raw) < 2 * HEAD {
+        return Heading::End;
+    }
+    Heading::Is(head_of(&raw))
+}
+
+// Whether one of the three rows that op 7 lends is over its limit.
+fn is_over_rows(head: Head) -> bool {
+    if LINKS < head.a as usize {
+        return true;
+    }
+    if PARENTS < head.b as usize {
+        return true;
+    }
+    ROOM < head.c as usize
+}
+
+// Whether the head is over a limit. Those on parents, links or bytes and room hold for every op, also where they are unused.
+pub fn is_over(head: Head) -> bool {
+    if PARENTS < head.parents {
+        return true;
+    }
+    if ROOM < head.room {
+        return true;
+    }
+    if ops::takes_bytes(head.op) {
+        if BYTES < head.rest {
+            return true;
+        }
+    } else if LINKS < head.rest {
+        return true;
+    }
+    if head.op == ops::READ {
+        return is_over_rows(head);
+    }
+    false
+}
+
+// Puts the first n words of the bytes at the beginning of the row.
+fn decode(raw: &[u8], row: &mut [u16], n: usize)
+    requires { ⌜ (2 * n ≤ length (now raw)) × (n ≤ length (now row)) ⌝ }
+    ensures { λ _. ⌜ now (row .exit) ≡ rowWith (wordIn (now (raw .entry))) n (now (row .entry)) ⌝ }
+{
+    let mut i = 0;
+    while i < n {
+        row[i] = word(raw, i);
+        i += 1;
+    }
+}
+
+// Reads n bytes to the beginning of the row. False where the input ends first or the row is too short.
+fn read_bytes(raw: &mut [u8], n: usize) -> bool {
+    if raw.len() < n {
+        return false;
+    }
+    io::read_full(libc::STDIN_FILENO, &mut raw[0..n]) == n
+}
+
+// Reads n words to the beginning of the row, by way of raw bytes. False, with the row as it was, where the input ends first
+// or one of the two is too short.
+fn read_words(raw: &mut [u8], row: &mut [u16], n: usize) -> bool
+    ensures { λ r. ⌜ now (row .exit) ≡ rowRead r (now (raw .exit)) n (now (row .entry)) ⌝ }
+{
+    if row.len() < n {
+        return false;
+    }
+    if raw.len() / 2 < n {
+        return false;
+    }
+    if !read_bytes(raw, 2 * n) {
+        return false;
+    }
+    decode(raw, row, n);
+    true
+}
+
+// Reads what follows the head: the parents, then the link numbers or the bytes. False where the input ends first.
+pub fn read_rows(head: Head, links: &mut [u16], parents: &mut [u16], bytes: &mut [u8]) -> bool {
+    if !read_words(bytes, parents, head.parents) {
+        return false;
+    }
+    if ops::takes_bytes(head.op) {
+        return read_bytes(bytes, head.rest);
+    }
+    read_words(bytes, links, head.rest)
+}
+
+// What a case put into a row: its first n numbers, or all of it where it has fewer.
+pub fn first(row: &[u16], n: usize) -> &[u16]
+    ensures { λ r. ⌜ now r ≡ take n (now (row .entry)) ⌝ }
+{
+    if row.len() < n {
+        return row;
+    }
+    &row[0..n]
+}

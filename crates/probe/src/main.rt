@@ -1,0 +1,89 @@
+// The library from the outside: reads cases from standard input, and prints what the public functions answer and what they
+// leave in the lent rows. The rows are made once, and every case uses them again.
+mod checking;
+mod input;
+mod limits;
+mod ops;
+mod output;
+
+use input::Heading;
+use limits::BYTES;
+use limits::CASES;
+use limits::LINKS;
+use limits::OUT;
+use limits::PARENTS;
+use limits::ROOM;
+
+// Whether another case follows, and how much waits to be printed.
+enum Next {
+    On(usize),
+    Over(usize),
+}
+
+// Reads the next case and prints what it answers. An op that is not in the table is told before the limits; an input that
+// ends inside a case prints nothing for it.
+fn next_case(
+    links: &mut [u16],
+    parents: &mut [u16],
+    row: &mut [u64],
+    bytes: &mut [u8],
+    file: &mut [u8],
+    out: &mut [u8],
+    at: usize,
+) -> Next {
+    let heading = input::read_head();
+    let Heading::Is(head) = heading else {
+        return Next::Over(at);
+    };
+    if !ops::is_op(head.op) {
+        return Next::Over(output::put(out, at, b"unknown\n"));
+    }
+    if input::is_over(head) {
+        return Next::Over(output::put(out, at, b"too long\n"));
+    }
+    if !input::read_rows(head, links, parents, bytes) {
+        return Next::Over(at);
+    }
+    Next::On(ops::answer(head, links, parents, row, bytes, file, out, at))
+}
+
+// Reads cases until one ends the program, and prints what they answer. It ends after `CASES` of them too.
+fn run(
+    links: &mut [u16],
+    parents: &mut [u16],
+    row: &mut [u64],
+    bytes: &mut [u8],
+    file: &mut [u8],
+    out: &mut [u8],
+) {
+    let mut at = 0;
+    let mut left = CASES;
+    while 0 < left {
+        match next_case(links, parents, row, bytes, file, out, at) {
+            Next::On(waits) => at = waits,
+            Next::Over(waits) => {
+                output::flush(out, waits);
+                return;
+            }
+        }
+        left -= 1;
+    }
+    output::flush(out, at);
+}
+
+fn main() {
+    let mut links = [0u16; LINKS];
+    let mut parents = [0u16; PARENTS];
+    let mut row = [0u64; ROOM];
+    let mut bytes = [0u8; BYTES];
+    let mut file = [0u8; ROOM];
+    let mut out = [0u8; OUT];
+    run(
+        &mut links,
+        &mut parents,
+        &mut row,
+        &mut bytes,
+        &mut file,
+        &mut out,
+    );
+}

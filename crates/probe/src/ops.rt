@@ -1,0 +1,59 @@
+// The table of ops. An op is one function over rows and numbers of the head, and answers how much waits to be printed. It is
+// added by its name in `is_op` and its call in `answer`.
+use crate::checking;
+use crate::input;
+use crate::input::Head;
+
+pub const CHECK: u16 = 1;
+
+pub const TABLE: u16 = 2;
+
+pub const MAP: u16 = 3;
+
+pub const CHANGE: u16 = 4;
+
+pub const CHANGE_UNFILLED: u16 = 5;
+
+pub const WRITE: u16 = 6;
+
+pub const READ: u16 = 7;
+
+pub const PAYLOAD: u16 = 8;
+
+// Whether the op is in the probe's table.
+pub fn is_op(op: u16) -> bool {
+    op == CHECK
+}
+
+// Whether bytes follow the parents, not link numbers.
+pub fn takes_bytes(op: u16) -> bool {
+    if op == READ {
+        return true;
+    }
+    op == PAYLOAD
+}
+
+// Prints what the head's op answers. `links`, `parents` and `bytes` begin with what was read. The room that a case lends is the
+// beginning of `row` or `file`, and for op 7 that of `links`, `parents` and `row`.
+pub fn answer(
+    head: Head,
+    links: &mut [u16],
+    parents: &mut [u16],
+    row: &mut [u64],
+    bytes: &mut [u8],
+    file: &mut [u8],
+    out: &mut [u8],
+    at: usize,
+) -> usize {
+    let op = head.op;
+    if op == CHECK {
+        return checking::check(
+            input::first(links, head.rest),
+            input::first(parents, head.parents),
+            head.search,
+            out,
+            at,
+        );
+    }
+    at
+}
