@@ -4,7 +4,7 @@ use mathlib.Core.Bool.{Bool, cond, not, _&&_}
 use mathlib.Core.List.{List, [], _∷_, _++_}
 use Prim.Native.Nat.{ℕ, _+_, _*_}
 use lib.Dec.{eqb, leb}
-use lib.ListN.{take, drop, set}
+use lib.ListN.{drop, set}
 use Rattle.edition.specs.declared.Search.{Search}
 use Rattle.edition.specs.declared.Change.{Change}
 use Rattle.edition.specs.declared.Verdict.{Verdict}
@@ -20,7 +20,7 @@ use Rattle.network.specs.Records.{badMark}
 use Rattle.tree.specs.Tree.{treeOf, onPath}
 use Rattle.sound.specs.Sound.{short}
 use Rattle.swap.specs.Entry.{entry}
-use Rattle.table.specs.Table.{tableVerdict}
+use Rattle.table.specs.Table.{standing, tableVerdict}
 
 -- Is the link some node's parent link?
 unfoldable pub isParent : Net → ℕ → Bool
@@ -45,10 +45,6 @@ changeVerdict g entries c =
 -- The row of links with the length and the service mark stored in that link's record.
 unfoldable pub setLink : List ℕ → Change → List ℕ
 setLink links c = set (set links (c .link * linkWidth + 2) (c .length)) (c .link * linkWidth + 3) (c .mark)
-
--- The record of x in a row of entries, as it stands.
-unfoldable pub standing : List ℕ → ℕ → List ℕ
-standing entries x = take entryWidth (drop (x * entryWidth) entries)
 
 -- The record of x after a change between the ends a and b: worked out in the new network where the tree link of x lies on the
 -- tree path between the ends, and as it stands elsewhere.

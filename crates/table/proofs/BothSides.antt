@@ -68,11 +68,11 @@ module _ (links parents : List ℕ) (search : Search) (ok : netVerdict (netOf li
   s : Sound (netOf links parents search)
   s = sound (netOf links parents search) ok
 
-  all-in : (u : ℕ) → u < treeIn links parents search .size → Home (treeIn links parents search) u
+  pub all-in : (u : ℕ) → u < treeIn links parents search .size → Home (treeIn links parents search) u
   unfolding treeOf netOf
   all-in u l = home (netOf links parents search) s u l
 
-  closed-in : (u : ℕ) → u < treeIn links parents search .size → treeIn links parents search .up u < treeIn links parents search .size
+  pub closed-in : (u : ℕ) → u < treeIn links parents search .size → treeIn links parents search .up u < treeIn links parents search .size
   unfolding treeOf netOf
   closed-in u l = up-in (netOf links parents search) s u l
 

@@ -4,3 +4,5 @@ pub mod Stems
 pub mod Besides
 pub mod Passing
 pub mod BothSides
+pub mod Slots
+pub mod Sides

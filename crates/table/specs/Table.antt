@@ -2,7 +2,7 @@
 use mathlib.Core.List.{List, [], _∷_, _++_}
 use Prim.Native.Nat.{ℕ, _*_, _/_}
 use lib.Dec.{ltb}
-use lib.ListN.{length, drop}
+use lib.ListN.{length, take, drop}
 use Rattle.edition.specs.declared.Verdict.{Verdict}
 use Rattle.edition.specs.declared.Why.the-variants.{NoRoom}
 use Rattle.edition.specs.Limits.{entryWidth}
@@ -21,6 +21,10 @@ table g = rowsTo (λ x. entryRow (entry g x)) (g .nodes)
 -- How many whole entries a row holds.
 abbrev pub entriesIn : List ℕ → ℕ
 entriesIn row = length row / entryWidth
+
+-- The record of x in a row of entries, as it stands.
+unfoldable pub standing : List ℕ → ℕ → List ℕ
+standing row x = take entryWidth (drop (x * entryWidth) row)
 
 -- 1 to 9, then 10 where fewer entries are lent than there are nodes.
 unfoldable pub tableVerdict : Net → List ℕ → Verdict

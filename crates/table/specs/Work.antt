@@ -5,10 +5,16 @@ use mathlib.Core.List.{List}
 use Prim.Native.Nat.{ℕ, _+_, _*_, _-_, _^_, _<_, _≤_, max}
 use lib.Dec.{eqb}
 use lib.ListN.{length, getD, set}
+use Rattle.edition.specs.declared.Swap.{Swap}
+use Rattle.edition.specs.declared.Entry.{Entry}
+use Rattle.edition.specs.Limits.{entryWidth}
 use Rattle.rows.specs.Count.{sumTo, maxTo, onlyIf}
 use Rattle.tree.specs.Tree.{Tree, dist, under}
 use Rattle.swap.specs.Swap.{inside}
-use Rattle.swap.specs.Fold.{stem, deepest, aside}
+use Rattle.swap.specs.Fold.{stem, deepest, aside, reach}
+use Rattle.tree.specs.declared.Climb.{Climb}
+use Rattle.tree.specs.Work.{Along}
+use Rattle.table.specs.declared.Side.{Side}
 
 -- a row holds f of each node
 pub record Holds (n : ℕ) (f : ℕ → ℕ) (row : List ℕ) : Type 0 where
@@ -81,3 +87,26 @@ pub record Passed (t : Tree) (back : Bool) (n : ℕ) (most out out′ : List ℕ
 pub record Asides (t : Tree) (n : ℕ) (row : List ℕ) : Type 0 where
   pub room : n ≤ length row
   pub each : (x : ℕ) → x < n → eqb x (t .root) ≡ false → getD row x 0 ≡ aside t x
+
+-- the entry whose record is that of x in a row
+unfoldable pub entryAt : List ℕ → ℕ → Entry
+entryAt row x =
+    let at = x * entryWidth in
+    record {
+      state = getD row at 0;
+      sum = record { link = getD row (at + 1) 0; cost = getD row (at + 4) 0 };
+      incr = record { link = getD row (at + 2) 0; cost = getD row (at + 5) 0 };
+      max = record { link = getD row (at + 3) 0; cost = getD row (at + 6) 0 };
+    }
+
+-- a row of entries that holds the record f of each node, and past them what another row holds
+pub record Entries (n : ℕ) (f : ℕ → List ℕ) (before after : List ℕ) : Type 0 where
+  pub size : length after ≡ length before
+  pub each : (x i : ℕ) → x < n → i < entryWidth → getD after (x * entryWidth + i) 0 ≡ getD (f x) i 0
+  pub rest : (j : ℕ) → n * entryWidth ≤ j → getD after j 0 ≡ getD before j 0
+
+-- a climb from z, with the largest t(u,z) over the nodes below where it is
+pub record Carries (t : Tree) (z : ℕ) (s : Side) : Type 0 where
+  pub along : Along t z (s .climb)
+  pub from-is : s .from ≡ z
+  pub reach-is : s .reach ≡ reach t (s .climb .node) z

@@ -2,15 +2,28 @@
 ghost use mathlib.Core.Path.{_≡_};
 ghost use Prim.Native.Nat.{ℕ, _+_, _*_, _<_, _≤_, _^_, max};
 ghost use lib.ListN.{length, getD};
+ghost use lib.Seq.{sets};
+ghost use Rattle.edition.specs.Limits.{nodeLimit, entryWidth};
+ghost use Rattle.edition.specs.Entries.{entryRow};
 ghost use Rattle.edition.specs.declared.Verdict.the-variants.{Taken};
 ghost use Rattle.network.specs.Network.{netOf};
 ghost use Rattle.rows.specs.Count.{rowWith};
 ghost use Rattle.tree.specs.Tree.{treeOf, dist};
 ghost use Rattle.sound.specs.Sound.{netVerdict};
 ghost use Rattle.swap.specs.Fold.{count as countOf, weight as weightOf, stem, base as baseOf, turn as turnOf, deepest};
-ghost use Rattle.table.specs.Work.{Holds, FoldedAt, Foldable, Added, Counted, placed, Raised, Passed, Asides};
+ghost use Rattle.table.specs.Work.{Holds, FoldedAt, Foldable, Added, Counted, placed, Raised, Passed, Asides, entryAt, Carries};
+use edition::Entry;
 use edition::Memory;
 use edition::Search;
+use edition::Swap;
+use tree::Climb;
+
+// A climb from the lower end of a link, with the largest tree distance from there to a node below where it is.
+pub struct Side {
+    pub climb: Climb,
+    pub from: usize,
+    pub reach: u64,
+}
 
 // The larger of two numbers.
 fn larger(a: u64, b: u64) -> u64
@@ -189,4 +202,88 @@ fn fill_asides(links: &[u16], parents: &[u16], search: Search, deep: &[u64], out
     pass(links, parents, search, deep, false, &mut first, out);
     let mut second = [0u64; Memory::NODES];
     pass(links, parents, search, deep, true, &mut second, out);
+}
+
+// The entry of node x in a row of entries.
+fn get(entries: &[u64], x: usize) -> Entry
+    requires { ⌜ x < nodeLimit ⌝ }
+    ensures { λ r. ⌜ r ≡ entryAt (now (entries .entry)) x ⌝ }
+{
+    let at = x * Memory::ENTRY;
+    let sum = Swap {
+        link: rows::wide_at(entries, at + 1),
+        cost: rows::wide_at(entries, at + 4),
+    };
+    let incr = Swap {
+        link: rows::wide_at(entries, at + 2),
+        cost: rows::wide_at(entries, at + 5),
+    };
+    let max = Swap {
+        link: rows::wide_at(entries, at + 3),
+        cost: rows::wide_at(entries, at + 6),
+    };
+    Entry {
+        state: rows::wide_at(entries, at),
+        sum,
+        incr,
+        max,
+    }
+}
+
+// Writes the entry of node x into a row of entries.
+fn put(entries: &mut [u64], x: usize, e: Entry)
+    requires { ⌜ (x < nodeLimit) × (x * entryWidth + entryWidth ≤ length (now entries)) ⌝ }
+    ensures { λ _. ⌜ now (entries .exit) ≡ sets (now (entries .entry)) (x * entryWidth) (entryRow e) ⌝ }
+{
+    let at = x * Memory::ENTRY;
+    entries[at] = e.state;
+    entries[at + 1] = e.sum.link;
+    entries[at + 2] = e.incr.link;
+    entries[at + 3] = e.max.link;
+    entries[at + 4] = e.sum.cost;
+    entries[at + 5] = e.incr.cost;
+    entries[at + 6] = e.max.cost;
+}
+
+// A climb that begins at z.
+fn begin_side(
+    links: &[u16],
+    parents: &[u16],
+    search: Search,
+    near: &[u64],
+    deep: &[u64],
+    z: usize,
+) -> Side
+    requires { ⌜ (netVerdict (netOf (now links) (now parents) search) ≡ Taken) × Holds (length (now parents)) (dist (treeOf (netOf (now links) (now parents) search))) (now near) × Holds (length (now parents)) (deepest (treeOf (netOf (now links) (now parents) search))) (now deep) × (z < length (now parents)) ⌝ }
+    ensures { λ r. ⌜ Carries (treeOf (netOf (now (links .entry)) (now (parents .entry)) search)) z r × (r .climb .node ≡ z) ⌝ }
+{
+    Side {
+        climb: Climb::begin(z),
+        from: z,
+        reach: rows::wide_at(deep, z) - rows::wide_at(near, z),
+    }
+}
+
+// One step up.
+fn step_side(
+    side: Side,
+    links: &[u16],
+    parents: &[u16],
+    search: Search,
+    near: &[u64],
+    asides: &[u64],
+) -> Side
+    requires { ⌜ (netVerdict (netOf (now links) (now parents) search) ≡ Taken) × Holds (length (now parents)) (dist (treeOf (netOf (now links) (now parents) search))) (now near) × Asides (treeOf (netOf (now links) (now parents) search)) (length (now parents)) (now asides) × Carries (treeOf (netOf (now links) (now parents) search)) (side .from) side × (side .from < length (now parents)) × (side .climb .node ≡ search .root → ⊥) ⌝ }
+    ensures { λ r. ⌜ Carries (treeOf (netOf (now (links .entry)) (now (parents .entry)) search)) (side .from) r × (r .climb .node ≡ treeOf (netOf (now (links .entry)) (now (parents .entry)) search) .up (side .climb .node)) × (r .from ≡ side .from) ⌝ }
+{
+    let old = side.climb;
+    let climb = old.step(links, parents, search);
+    let d = rows::wide_at(near, climb.node);
+    let down = rows::wide_at(near, side.from) - d;
+    let over = rows::wide_at(asides, old.node) - d;
+    Side {
+        climb,
+        from: side.from,
+        reach: larger(side.reach, down + over),
+    }
 }

@@ -2,6 +2,9 @@
 use lib.ListN.{length}
 use Rattle.tree.proofs.InRows.{treeIn}
 -- `table::fold_up` meets its contract. Assumes nothing.
+use lib.ListN.{length}
+use Rattle.tree.proofs.InRows.{treeIn}
+-- `table::fold_up` meets its contract. Assumes nothing.
 use Rattle.tree.specs.Tree.{route}
 use lib.ListN.{length}
 use Rattle.tree.proofs.InRows.{treeIn}
