@@ -6,3 +6,4 @@ pub mod Passing
 pub mod BothSides
 pub mod Slots
 pub mod Sides
+pub mod Pricing

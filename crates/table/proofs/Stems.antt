@@ -56,7 +56,7 @@ root-stem links parents search c h e =
     ap (total (stemAt (treeIn links parents search))) (route-root (treeIn links parents search) c h e) ∙ omega (arith, no-term links parents search c e)
 
 module _ (links parents : List ℕ) (search : Search) (ok : netVerdict (netOf links parents search) ≡ Taken) (held : (i : ℕ) → getD links i 0 ≤ longest) where
-  counts-small : (x : ℕ) → count (treeIn links parents search) x ≤ nodeLimit
+  pub counts-small : (x : ℕ) → count (treeIn links parents search) x ≤ nodeLimit
   counts-small x = omega (arith, count-few (treeIn links parents search) x, size-in links parents search, small links parents search ok held)
 
   pub product-small : (a x : ℕ) → a ≤ nodeLimit → a * dist (treeIn links parents search) x ≤ most
@@ -71,6 +71,16 @@ module _ (links parents : List ℕ) (search : Search) (ok : netVerdict (netOf li
   stem-small x =
       let k : length (route (treeIn links parents search) x) ≤ nodeLimit = omega (arith, route-length (treeIn links parents search) x, size-in links parents search, small links parents search ok held) in
       omega (arith, total-bound (stemAt (treeIn links parents search)) most stem-at-small (route (treeIn links parents search) x))
+
+  pub weight-small : (x : ℕ) → weight (treeIn links parents search) x ≤ most
+  unfolding weight
+  weight-small x =
+      let t = treeIn links parents search in
+      omega (arith, sum-bound (inside t x (dist t)) (t .size) (nodeLimit * longest) (λ j i. inside-small t x (dist t) j (nodeLimit * longest) (λ e. dist-few links parents search ok held j)), size-in links parents search, small links parents search ok held)
+
+  pub base-small : (x : ℕ) → base (treeIn links parents search) x ≤ most + 2 * (nodeLimit * most)
+  unfolding base
+  base-small x = omega (arith, weight-small x, stem-small x)
 
   -- a climb from x to c with the sum so far
   module _ (x : ℕ) (lx : x < length parents) where
@@ -156,10 +166,7 @@ module _ (links parents : List ℕ) (search : Search) (ok : netVerdict (netOf li
   own-fits a b p q = rw (own-is a b p q) (product-small links parents search ok held _ x (counts-small links parents search ok held x))
 
   pub weight-fits : weight (treeIn links parents search) x ≤ most
-  unfolding weight
-  weight-fits =
-      let t = treeIn links parents search in
-      omega (arith, sum-bound (inside t x (dist t)) (t .size) (nodeLimit * longest) (λ j i. inside-small t x (dist t) j (nodeLimit * longest) (λ e. dist-few links parents search ok held j)), size-in links parents search, small links parents search ok held)
+  weight-fits = weight-small links parents search ok held x
 
   pub base-is : (a s : ℕ) → a ≡ getD weights x 0 → s ≡ stem (treeIn links parents search) x → a + 2 * s ≡ base (treeIn links parents search) x
   unfolding base

@@ -9,9 +9,12 @@ use Rattle.edition.specs.declared.Swap.{Swap}
 use Rattle.edition.specs.declared.Entry.{Entry}
 use Rattle.edition.specs.Limits.{entryWidth}
 use Rattle.rows.specs.Count.{sumTo, maxTo, onlyIf}
-use Rattle.tree.specs.Tree.{Tree, dist, under}
-use Rattle.swap.specs.Swap.{inside}
-use Rattle.swap.specs.Fold.{stem, deepest, aside, reach}
+use Rattle.edition.specs.declared.Measure.the-variants.{Sum, Incr, Max}
+use Rattle.network.specs.Network.{Net}
+use Rattle.tree.specs.Tree.{Tree, treeOf, dist, under}
+use Rattle.swap.specs.declared.Costs.{Costs}
+use Rattle.swap.specs.Swap.{inside, lower, crosses, costOf}
+use Rattle.swap.specs.Fold.{count as countOf, stem, base as baseOf, turn as turnOf, deepest, aside, through, reach}
 use Rattle.tree.specs.declared.Climb.{Climb}
 use Rattle.tree.specs.Work.{Along}
 use Rattle.table.specs.declared.Side.{Side}
@@ -110,3 +113,23 @@ pub record Carries (t : Tree) (z : ℕ) (s : Side) : Type 0 where
   pub along : Along t z (s .climb)
   pub from-is : s .from ≡ z
   pub reach-is : s .reach ≡ reach t (s .climb .node) z
+
+-- link e crosses the node where a climb is, from its lower end on, and K is the way through it
+pub record Crossing (g : Net) (e : ℕ) (s : Side) (k : ℕ) : Type 0 where
+  pub there : e < g .links
+  pub cross : crosses (treeOf g) (s .climb .node) e (g .link e) ≡ true
+  pub low : lower (treeOf g) (s .climb .node) (g .link e) ≡ s .from
+  pub through-is : k ≡ through (treeOf g) (g .link e)
+
+-- what a link costs a node
+pub record Priced (g : Net) (x e : ℕ) (c : Costs) : Type 0 where
+  pub sum-is : c .sum ≡ costOf Sum g x e
+  pub incr-is : c .incr ≡ costOf Incr g x e
+  pub max-is : c .max ≡ costOf Max g x e
+
+-- the rows that a search goes by
+pub record Ready (t : Tree) (n : ℕ) (near count bases turns : List ℕ) : Type 0 where
+  pub nears : Holds n (dist t) near
+  pub counts : Holds n (countOf t) count
+  pub bases-are : Holds n (baseOf t) bases
+  pub turns-are : Holds n (turnOf t) turns

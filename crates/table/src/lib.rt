@@ -11,11 +11,12 @@ ghost use Rattle.rows.specs.Count.{rowWith};
 ghost use Rattle.tree.specs.Tree.{treeOf, dist};
 ghost use Rattle.sound.specs.Sound.{netVerdict};
 ghost use Rattle.swap.specs.Fold.{count as countOf, weight as weightOf, stem, base as baseOf, turn as turnOf, deepest};
-ghost use Rattle.table.specs.Work.{Holds, FoldedAt, Foldable, Added, Counted, placed, Raised, Passed, Asides, entryAt, Carries};
+ghost use Rattle.table.specs.Work.{Holds, FoldedAt, Foldable, Added, Counted, placed, Raised, Passed, Asides, entryAt, Carries, Crossing, Priced, Ready};
 use edition::Entry;
 use edition::Memory;
 use edition::Search;
 use edition::Swap;
+use swap::Costs;
 use tree::Climb;
 
 // A climb from the lower end of a link, with the largest tree distance from there to a node below where it is.
@@ -285,5 +286,34 @@ fn step_side(
         climb,
         from: side.from,
         reach: larger(side.reach, down + over),
+    }
+}
+
+// What link e costs the node where the climb is, by the rows and what is carried.
+fn costs_of(
+    links: &[u16],
+    parents: &[u16],
+    search: Search,
+    near: &[u64],
+    count: &[u64],
+    bases: &[u64],
+    turns: &[u64],
+    side: Side,
+    e: usize,
+    k: u64,
+) -> Costs
+    requires { ⌜ (netVerdict (netOf (now links) (now parents) search) ≡ Taken) × Ready (treeOf (netOf (now links) (now parents) search)) (length (now parents)) (now near) (now count) (now bases) (now turns) × Carries (treeOf (netOf (now links) (now parents) search)) (side .from) side × (side .from < length (now parents)) × Crossing (netOf (now links) (now parents) search) e side k ⌝ }
+    ensures { λ r. ⌜ Priced (netOf (now (links .entry)) (now (parents .entry)) search) (side .climb .node) e r ⌝ }
+{
+    let climb = side.climb;
+    let x = climb.node;
+    let z = side.from;
+    let whole = rows::wide_at(bases, x) + product(rows::wide_at(count, x), k);
+    let d = rows::wide_at(near, x);
+    let rest = k - rows::wide_at(near, z);
+    Costs {
+        sum: whole - rows::wide_at(turns, z),
+        incr: k - 2 * d,
+        max: side.reach + rest,
     }
 }
