@@ -7,3 +7,4 @@ pub mod BothSides
 pub mod Slots
 pub mod Sides
 pub mod Pricing
+pub mod Offering

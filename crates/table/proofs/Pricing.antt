@@ -47,7 +47,7 @@ module _ (links parents : List ℕ) (search : Search) (ok : netVerdict (netOf li
   on : under (treeIn links parents search) (s .climb .node) (s .from) ≡ true
   on = i .along .on
 
-  x-low : s .climb .node < length parents
+  pub x-low : s .climb .node < length parents
   x-low = subst (λ (m : ℕ). s .climb .node < m) (size-in links parents search) (under-below (treeIn links parents search) (closed-in links parents search ok) (s .from) (s .climb .node) hz (low (s .from) l) on)
 
   it : Link

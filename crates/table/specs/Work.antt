@@ -1,13 +1,14 @@
 -- What private functions of this crate promise each other. No public promise cites this page. Assumes nothing.
 use mathlib.Core.Path.{_≡_}
-use mathlib.Core.Bool.{Bool, true, false, cond, not, _&&_}
+use mathlib.Core.Bool.{Bool, true, false, cond, not, _&&_, _||_}
 use mathlib.Core.List.{List}
-use Prim.Native.Nat.{ℕ, _+_, _*_, _-_, _^_, _<_, _≤_, max}
-use lib.Dec.{eqb}
+use Prim.Native.Nat.{ℕ, suc, _+_, _*_, _-_, _^_, _<_, _≤_, max}
+use lib.Dec.{eqb, leb}
 use lib.ListN.{length, getD, set}
 use Rattle.edition.specs.declared.Swap.{Swap}
 use Rattle.edition.specs.declared.Entry.{Entry}
-use Rattle.edition.specs.Limits.{entryWidth}
+use Rattle.edition.specs.Limits.{entryWidth, wholeSearch}
+use Rattle.edition.specs.Entries.{entryRow}
 use Rattle.rows.specs.Count.{sumTo, maxTo, onlyIf}
 use Rattle.edition.specs.declared.Measure.the-variants.{Sum, Incr, Max}
 use Rattle.network.specs.Network.{Net}
@@ -17,7 +18,10 @@ use Rattle.swap.specs.Swap.{inside, lower, crosses, costOf}
 use Rattle.swap.specs.Fold.{count as countOf, stem, base as baseOf, turn as turnOf, deepest, aside, through, reach}
 use Rattle.tree.specs.declared.Climb.{Climb}
 use Rattle.tree.specs.Work.{Along}
+use Rattle.swap.specs.Entry.{entry}
+use Rattle.swap.specs.Prefix.{firstLinks}
 use Rattle.table.specs.declared.Side.{Side}
+use Rattle.table.specs.Table.{standing}
 
 -- a row holds f of each node
 pub record Holds (n : ℕ) (f : ℕ → ℕ) (row : List ℕ) : Type 0 where
@@ -133,3 +137,19 @@ pub record Ready (t : Tree) (n : ℕ) (near count bases turns : List ℕ) : Type
   pub counts : Holds n (countOf t) count
   pub bases-are : Holds n (baseOf t) bases
   pub turns-are : Holds n (turnOf t) turns
+
+-- is a node among those that are worked out?
+unfoldable pub marked : List ℕ → ℕ → Bool
+marked marks x = not (eqb (getD marks x 0) 0)
+
+-- the record of x after k links: worked out where it is marked, as it stood elsewhere
+unfoldable pub want : Net → List ℕ → List ℕ → ℕ → ℕ → List ℕ
+want g marks before k x = cond (marked marks x) (entryRow (entry (firstLinks g k) x)) (standing before x)
+
+-- link e offered at x: the record of x, and no other, goes on from e links to one more
+pub record OfferedAt (g : Net) (n : ℕ) (marks : List ℕ) (e x : ℕ) (row row′ : List ℕ) : Type 0 where
+  pub goes-on : (before : List ℕ) (f : ℕ → List ℕ) → Entries n f before row → f x ≡ want g marks before e x → Entries n (λ y. cond (eqb x y) (want g marks before (suc e) y) (f y)) before row′
+
+-- hops within a depth
+unfoldable pub withinBy : ℕ → ℕ → Bool
+withinBy depth h = eqb depth wholeSearch || leb h depth

@@ -11,7 +11,8 @@ ghost use Rattle.rows.specs.Count.{rowWith};
 ghost use Rattle.tree.specs.Tree.{treeOf, dist};
 ghost use Rattle.sound.specs.Sound.{netVerdict};
 ghost use Rattle.swap.specs.Fold.{count as countOf, weight as weightOf, stem, base as baseOf, turn as turnOf, deepest};
-ghost use Rattle.table.specs.Work.{Holds, FoldedAt, Foldable, Added, Counted, placed, Raised, Passed, Asides, entryAt, Carries, Crossing, Priced, Ready};
+ghost use Rattle.table.specs.Work.{Holds, FoldedAt, Foldable, Added, Counted, placed, Raised, Passed, Asides, entryAt, Carries, Crossing, Priced, Ready, OfferedAt, withinBy};
+use edition::Edition;
 use edition::Entry;
 use edition::Memory;
 use edition::Search;
@@ -316,4 +317,54 @@ fn costs_of(
         incr: k - 2 * d,
         max: side.reach + rest,
     }
+}
+
+// Whether so many hops are within the depth asked.
+fn is_within(depth: u16, hops: usize) -> bool
+    ensures { λ r. ⌜ r ≡ withinBy depth hops ⌝ }
+{
+    if depth == Edition::WHOLE {
+        return true;
+    }
+    hops <= depth as usize
+}
+
+// Offers link e to the node where the climb is, where that node is marked.
+fn offer_at(
+    links: &[u16],
+    parents: &[u16],
+    search: Search,
+    near: &[u64],
+    count: &[u64],
+    bases: &[u64],
+    turns: &[u64],
+    marks: &[u64],
+    entries: &mut [u64],
+    side: Side,
+    e: usize,
+    k: u64,
+)
+    requires { ⌜ (netVerdict (netOf (now links) (now parents) search) ≡ Taken) × Ready (treeOf (netOf (now links) (now parents) search)) (length (now parents)) (now near) (now count) (now bases) (now turns) × Carries (treeOf (netOf (now links) (now parents) search)) (side .from) side × (side .from < length (now parents)) × Crossing (netOf (now links) (now parents) search) e side k × (side .climb .node ≡ search .root → ⊥) × (length (now parents) * entryWidth ≤ length (now entries)) ⌝ }
+    ensures { λ _. ⌜ OfferedAt (netOf (now (links .entry)) (now (parents .entry)) search) (length (now (parents .entry))) (now (marks .entry)) e (side .climb .node) (now (entries .entry)) (now (entries .exit)) ⌝ }
+{
+    let climb = side.climb;
+    let x = climb.node;
+    if rows::wide_at(marks, x) == 0 {
+        return;
+    }
+    let c = costs_of(
+        links,
+        parents,
+        search,
+        near,
+        count,
+        bases,
+        turns,
+        side,
+        e,
+        k,
+    );
+    let near_enough = is_within(search.depth, climb.hops);
+    let new = swap::with_link(get(entries, x), near_enough, e as u64, c);
+    put(entries, x, new);
 }

@@ -1,6 +1,8 @@
 -- `table::begin_side` meets its contract. Assumes nothing.
 use Rattle.table.proofs.Sides.{begin-less, begin-carries}
 -- `table::begin_side` meets its contract. Assumes nothing.
+use Rattle.table.proofs.Sides.{begin-less, begin-carries}
+-- `table::begin_side` meets its contract. Assumes nothing.
 use native.Mathlib.Omega.{arith}
 use Rattle.table.proofs.Sides.{begin-less, begin-carries}
 use borrow.Author.Needs.{needs}

@@ -3,6 +3,8 @@ use mathlib.Core.Path.{refl}
 -- `table::fill_asides` meets its contract. Assumes nothing.
 use mathlib.Core.Path.{refl}
 -- `table::fill_asides` meets its contract. Assumes nothing.
+use mathlib.Core.Path.{refl}
+-- `table::fill_asides` meets its contract. Assumes nothing.
 use Rattle.edition.specs.Limits.{nodeLimit}
 use lib.ListN.{getD-replicate}
 use mathlib.Core.Path.{refl}

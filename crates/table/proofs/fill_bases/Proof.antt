@@ -14,6 +14,11 @@ use mathlib.Core.Path.{_∙_, ap}
 use lib.ListN.{length}
 use Rattle.tree.proofs.InRows.{treeIn}
 -- `table::fill_bases` meets its contract. Assumes nothing.
+use Prim.Native.Nat.{_-_}
+use mathlib.Core.Path.{_∙_, ap}
+use lib.ListN.{length}
+use Rattle.tree.proofs.InRows.{treeIn}
+-- `table::fill_bases` meets its contract. Assumes nothing.
 use Rattle.swap.specs.Fold.{base, turn}
 use Prim.Native.Nat.{_-_}
 use mathlib.Core.Path.{_∙_, ap}

@@ -8,6 +8,9 @@ use Rattle.tree.proofs.InRows.{treeIn}
 use lib.ListN.{length}
 use Rattle.tree.proofs.InRows.{treeIn}
 -- `table::fold_all` meets its contract. Assumes nothing.
+use lib.ListN.{length}
+use Rattle.tree.proofs.InRows.{treeIn}
+-- `table::fold_all` meets its contract. Assumes nothing.
 use Prim.Native.Nat.{_-_}
 use native.Mathlib.Omega.{arith}
 use lib.ListN.{length}

@@ -8,6 +8,9 @@ use Rattle.tree.proofs.InRows.{treeIn}
 use lib.ListN.{length}
 use Rattle.tree.proofs.InRows.{treeIn}
 -- `table::fold_up` meets its contract. Assumes nothing.
+use lib.ListN.{length}
+use Rattle.tree.proofs.InRows.{treeIn}
+-- `table::fold_up` meets its contract. Assumes nothing.
 use Rattle.tree.specs.Tree.{route}
 use lib.ListN.{length}
 use Rattle.tree.proofs.InRows.{treeIn}

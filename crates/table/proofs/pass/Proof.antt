@@ -7,6 +7,10 @@ use lib.ListN.{length}
 use Rattle.tree.proofs.InRows.{treeIn}
 use Rattle.table.proofs.Passing.{placed-in, Passing, passing-start, passing-more, passing-end, up-low}
 -- `table::pass` meets its contract. Assumes nothing.
+use lib.ListN.{length}
+use Rattle.tree.proofs.InRows.{treeIn}
+use Rattle.table.proofs.Passing.{placed-in, Passing, passing-start, passing-more, passing-end, up-low}
+-- `table::pass` meets its contract. Assumes nothing.
 use Prim.Native.Nat.{_-_}
 use native.Mathlib.Omega.{arith}
 use lib.ListN.{length}

@@ -3,6 +3,8 @@ use Rattle.table.proofs.Passing.{raised-root, raised-more, up-low}
 -- `table::raise_at` meets its contract. Assumes nothing.
 use Rattle.table.proofs.Passing.{raised-root, raised-more, up-low}
 -- `table::raise_at` meets its contract. Assumes nothing.
+use Rattle.table.proofs.Passing.{raised-root, raised-more, up-low}
+-- `table::raise_at` meets its contract. Assumes nothing.
 use native.Mathlib.Omega.{arith}
 use Rattle.table.proofs.Passing.{raised-root, raised-more, up-low}
 use borrow.Author.Needs.{needs}

@@ -11,6 +11,10 @@ use mathlib.Core.Path.{_∙_, ap₂}
 use lib.ListN.{length}
 use Rattle.tree.proofs.InRows.{treeIn}
 -- `table::stem_of` meets its contract. Assumes nothing.
+use mathlib.Core.Path.{_∙_, ap₂}
+use lib.ListN.{length}
+use Rattle.tree.proofs.InRows.{treeIn}
+-- `table::stem_of` meets its contract. Assumes nothing.
 use Prim.Native.Nat.{ℕ, _*_, _-_}
 use mathlib.Core.Path.{_∙_, ap₂}
 use Rattle.table.specs.Work.{Stemming}
