@@ -92,3 +92,12 @@ pub sum-le : (f g : ℕ → ℕ) (k : ℕ) → ((j : ℕ) → j < k → f j ≤ 
 unfolding sumTo
 sum-le f g zero h = omega arith
 sum-le f g (suc k) h = omega (arith, sum-le f g k (λ j l. h j (omega arith)), h k (omega arith))
+
+pub sum-less : (f g : ℕ → ℕ) (k j : ℕ) → j < k → f j < g j → ((i : ℕ) → i < k → f i ≤ g i) → sumTo f k < sumTo g k
+unfolding sumTo
+sum-less f g zero j l m h = absurd (not-suc-le-zero l)
+sum-less f g (suc k) j l m h = go (sum-less f g k j) (eqb j k) refl
+  where
+    go : (j < k → f j < g j → ((i : ℕ) → i < k → f i ≤ g i) → sumTo f k < sumTo g k) → (b : Bool) → eqb j k ≡ b → sumTo f (suc k) < sumTo g (suc k)
+    go ih true e = omega (arith, sum-le f g k (λ i n. h i (omega arith)), ap f (eqb-true j k e), ap g (eqb-true j k e))
+    go ih false e = omega (arith, ih (omega (arith, eqb-false j k e)) m (λ i n. h i (omega arith)), h k (omega arith))

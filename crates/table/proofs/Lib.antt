@@ -8,3 +8,4 @@ pub mod Slots
 pub mod Sides
 pub mod Pricing
 pub mod Offering
+pub mod TwoSides

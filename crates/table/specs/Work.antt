@@ -11,7 +11,8 @@ use Rattle.edition.specs.Limits.{entryWidth, wholeSearch}
 use Rattle.edition.specs.Entries.{entryRow}
 use Rattle.rows.specs.Count.{sumTo, maxTo, onlyIf}
 use Rattle.edition.specs.declared.Measure.the-variants.{Sum, Incr, Max}
-use Rattle.network.specs.Network.{Net}
+use Rattle.network.specs.declared.Link.{Link}
+use Rattle.network.specs.Network.{Net, inService}
 use Rattle.tree.specs.Tree.{Tree, treeOf, dist, under}
 use Rattle.swap.specs.declared.Costs.{Costs}
 use Rattle.swap.specs.Swap.{inside, lower, crosses, costOf}
@@ -153,3 +154,15 @@ pub record OfferedAt (g : Net) (n : ℕ) (marks : List ℕ) (e x : ℕ) (row row
 -- hops within a depth
 unfoldable pub withinBy : ℕ → ℕ → Bool
 withinBy depth h = eqb depth wholeSearch || leb h depth
+
+-- link e is in service and no parent link of its ends, and K is the way through it
+pub record Spare (g : Net) (e k : ℕ) : Type 0 where
+  pub there : e < g .links
+  pub serves : inService (g .link e) ≡ true
+  pub not-first : g .parent (g .link e .first) ≡ e → ⊥
+  pub not-second : g .parent (g .link e .second) ≡ e → ⊥
+  pub through-is : k ≡ through (treeOf g) (g .link e)
+
+-- a row of entries goes on from e links to one more
+pub record Linked (g : Net) (n : ℕ) (marks : List ℕ) (e : ℕ) (row row′ : List ℕ) : Type 0 where
+  pub goes-on : (before : List ℕ) → Entries n (want g marks before e) before row → Entries n (want g marks before (suc e)) before row′
