@@ -9,3 +9,4 @@ pub mod Sides
 pub mod Pricing
 pub mod Offering
 pub mod TwoSides
+pub mod Linking

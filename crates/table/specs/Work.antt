@@ -166,3 +166,10 @@ pub record Spare (g : Net) (e k : ℕ) : Type 0 where
 -- a row of entries goes on from e links to one more
 pub record Linked (g : Net) (n : ℕ) (marks : List ℕ) (e : ℕ) (row row′ : List ℕ) : Type 0 where
   pub goes-on : (before : List ℕ) → Entries n (want g marks before e) before row → Entries n (want g marks before (suc e)) before row′
+
+-- two climbs at the ends of link e
+pub record Starting (g : Net) (e : ℕ) (a b : Side) : Type 0 where
+  pub one : Carries (treeOf g) (g .link e .first) a
+  pub one-at : a .climb .node ≡ g .link e .first
+  pub two : Carries (treeOf g) (g .link e .second) b
+  pub two-at : b .climb .node ≡ g .link e .second

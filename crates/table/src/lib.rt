@@ -11,7 +11,7 @@ ghost use Rattle.rows.specs.Count.{rowWith};
 ghost use Rattle.tree.specs.Tree.{treeOf, dist};
 ghost use Rattle.sound.specs.Sound.{netVerdict};
 ghost use Rattle.swap.specs.Fold.{count as countOf, weight as weightOf, stem, base as baseOf, turn as turnOf, deepest};
-ghost use Rattle.table.specs.Work.{Holds, FoldedAt, Foldable, Added, Counted, placed, Raised, Passed, Asides, entryAt, Carries, Crossing, Priced, Ready, OfferedAt, withinBy};
+ghost use Rattle.table.specs.Work.{Holds, FoldedAt, Foldable, Added, Counted, placed, Raised, Passed, Asides, entryAt, Carries, Crossing, Priced, Ready, OfferedAt, withinBy, Spare, Starting, Linked};
 use edition::Edition;
 use edition::Entry;
 use edition::Memory;
@@ -367,4 +367,78 @@ fn offer_at(
     let near_enough = is_within(search.depth, climb.hops);
     let new = swap::with_link(get(entries, x), near_enough, e as u64, c);
     put(entries, x, new);
+}
+
+// The node where a climb is.
+fn node_of(side: Side) -> usize
+    ensures { λ r. ⌜ r ≡ side .climb .node ⌝ }
+{
+    let climb = side.climb;
+    climb.node
+}
+
+// How many nodes are below where a climb is, itself among them.
+fn below(count: &[u64], side: Side) -> u64
+    ensures { λ r. ⌜ r ≡ getD (now (count .entry)) (side .climb .node) 0 ⌝ }
+{
+    rows::wide_at(count, node_of(side))
+}
+
+// Offers link e to every marked node that it crosses, by a climb from each end up to where the routes meet.
+fn climb_link(
+    links: &[u16],
+    parents: &[u16],
+    search: Search,
+    near: &[u64],
+    count: &[u64],
+    bases: &[u64],
+    turns: &[u64],
+    asides: &[u64],
+    marks: &[u64],
+    entries: &mut [u64],
+    first: Side,
+    second: Side,
+    e: usize,
+    k: u64,
+)
+    requires { ⌜ (netVerdict (netOf (now links) (now parents) search) ≡ Taken) × Ready (treeOf (netOf (now links) (now parents) search)) (length (now parents)) (now near) (now count) (now bases) (now turns) × Asides (treeOf (netOf (now links) (now parents) search)) (length (now parents)) (now asides) × Spare (netOf (now links) (now parents) search) e k × Starting (netOf (now links) (now parents) search) e first second × (length (now parents) * entryWidth ≤ length (now entries)) ⌝ }
+    ensures { λ _. ⌜ Linked (netOf (now (links .entry)) (now (parents .entry)) search) (length (now (parents .entry))) (now (marks .entry)) e (now (entries .entry)) (now (entries .exit)) ⌝ }
+{
+    let mut a = first;
+    let mut b = second;
+    while node_of(a) != node_of(b) {
+        if below(count, a) <= below(count, b) {
+            offer_at(
+                links,
+                parents,
+                search,
+                near,
+                count,
+                bases,
+                turns,
+                marks,
+                entries,
+                a,
+                e,
+                k,
+            );
+            a = step_side(a, links, parents, search, near, asides);
+        } else {
+            offer_at(
+                links,
+                parents,
+                search,
+                near,
+                count,
+                bases,
+                turns,
+                marks,
+                entries,
+                b,
+                e,
+                k,
+            );
+            b = step_side(b, links, parents, search, near, asides);
+        }
+    }
 }

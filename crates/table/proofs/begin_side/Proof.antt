@@ -1,10 +1,6 @@
 -- `table::begin_side` meets its contract. Assumes nothing.
 use Rattle.table.proofs.Sides.{begin-less, begin-carries}
--- `table::begin_side` meets its contract. Assumes nothing.
-use Rattle.table.proofs.Sides.{begin-less, begin-carries}
--- `table::begin_side` meets its contract. Assumes nothing.
 use native.Mathlib.Omega.{arith}
-use Rattle.table.proofs.Sides.{begin-less, begin-carries}
 use borrow.Author.Needs.{needs}
 use Rattle.table.proofs.begin_side.Statement.{statement}
 use Rattle.table.proofs.begin_side.Tie as tie

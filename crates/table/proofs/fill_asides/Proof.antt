@@ -1,13 +1,7 @@
 -- `table::fill_asides` meets its contract. Assumes nothing.
 use mathlib.Core.Path.{refl}
--- `table::fill_asides` meets its contract. Assumes nothing.
-use mathlib.Core.Path.{refl}
--- `table::fill_asides` meets its contract. Assumes nothing.
-use mathlib.Core.Path.{refl}
--- `table::fill_asides` meets its contract. Assumes nothing.
 use Rattle.edition.specs.Limits.{nodeLimit}
 use lib.ListN.{getD-replicate}
-use mathlib.Core.Path.{refl}
 use native.Mathlib.Omega.{arith}
 use Rattle.table.proofs.Counts.{small}
 use Rattle.table.proofs.BothSides.{first-row, asides-are}

@@ -3,28 +3,8 @@ use Prim.Native.Nat.{_-_}
 use mathlib.Core.Path.{_∙_, ap}
 use lib.ListN.{length}
 use Rattle.tree.proofs.InRows.{treeIn}
--- `table::fill_bases` meets its contract. Assumes nothing.
-use Prim.Native.Nat.{_-_}
-use mathlib.Core.Path.{_∙_, ap}
-use lib.ListN.{length}
-use Rattle.tree.proofs.InRows.{treeIn}
--- `table::fill_bases` meets its contract. Assumes nothing.
-use Prim.Native.Nat.{_-_}
-use mathlib.Core.Path.{_∙_, ap}
-use lib.ListN.{length}
-use Rattle.tree.proofs.InRows.{treeIn}
--- `table::fill_bases` meets its contract. Assumes nothing.
-use Prim.Native.Nat.{_-_}
-use mathlib.Core.Path.{_∙_, ap}
-use lib.ListN.{length}
-use Rattle.tree.proofs.InRows.{treeIn}
--- `table::fill_bases` meets its contract. Assumes nothing.
 use Rattle.swap.specs.Fold.{base, turn}
-use Prim.Native.Nat.{_-_}
-use mathlib.Core.Path.{_∙_, ap}
 use native.Mathlib.Omega.{arith}
-use lib.ListN.{length}
-use Rattle.tree.proofs.InRows.{treeIn}
 use Rattle.table.proofs.Stems.{stem-small, own-is, own-fits, weight-fits, base-is, turn-is}
 use Rattle.rows.proofs.Filling.{Filled, filled-start, filled-more, filled-room, filled-length, filled-end}
 use borrow.Author.Needs.{needs}

@@ -1,20 +1,8 @@
 -- `table::fold_all` meets its contract. Assumes nothing.
 use lib.ListN.{length}
 use Rattle.tree.proofs.InRows.{treeIn}
--- `table::fold_all` meets its contract. Assumes nothing.
-use lib.ListN.{length}
-use Rattle.tree.proofs.InRows.{treeIn}
--- `table::fold_all` meets its contract. Assumes nothing.
-use lib.ListN.{length}
-use Rattle.tree.proofs.InRows.{treeIn}
--- `table::fold_all` meets its contract. Assumes nothing.
-use lib.ListN.{length}
-use Rattle.tree.proofs.InRows.{treeIn}
--- `table::fold_all` meets its contract. Assumes nothing.
 use Prim.Native.Nat.{_-_}
 use native.Mathlib.Omega.{arith}
-use lib.ListN.{length}
-use Rattle.tree.proofs.InRows.{treeIn}
 use Rattle.table.proofs.Counts.{can-fold, counted-more, Tally, tally-start, tally-more, tally-end}
 use borrow.Author.Needs.{needs}
 use Rattle.table.proofs.fold_all.Statement.{statement}

@@ -1,13 +1,5 @@
 -- `table::fold_at` meets its contract. Assumes nothing.
 use mathlib.Core.Path.{refl}
--- `table::fold_at` meets its contract. Assumes nothing.
-use mathlib.Core.Path.{refl}
--- `table::fold_at` meets its contract. Assumes nothing.
-use mathlib.Core.Path.{refl}
--- `table::fold_at` meets its contract. Assumes nothing.
-use mathlib.Core.Path.{refl}
--- `table::fold_at` meets its contract. Assumes nothing.
-use mathlib.Core.Path.{refl}
 use borrow.Author.Needs.{needs}
 use Rattle.table.proofs.fold_at.Statement.{statement}
 use Rattle.table.proofs.fold_at.Tie as tie

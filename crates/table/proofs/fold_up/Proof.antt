@@ -1,19 +1,7 @@
 -- `table::fold_up` meets its contract. Assumes nothing.
 use lib.ListN.{length}
 use Rattle.tree.proofs.InRows.{treeIn}
--- `table::fold_up` meets its contract. Assumes nothing.
-use lib.ListN.{length}
-use Rattle.tree.proofs.InRows.{treeIn}
--- `table::fold_up` meets its contract. Assumes nothing.
-use lib.ListN.{length}
-use Rattle.tree.proofs.InRows.{treeIn}
--- `table::fold_up` meets its contract. Assumes nothing.
-use lib.ListN.{length}
-use Rattle.tree.proofs.InRows.{treeIn}
--- `table::fold_up` meets its contract. Assumes nothing.
 use Rattle.tree.specs.Tree.{route}
-use lib.ListN.{length}
-use Rattle.tree.proofs.InRows.{treeIn}
 use Rattle.table.proofs.Moving.{Folding, folding-start, fold-room, folding-more, folding-less, folding-end}
 use borrow.Author.Needs.{needs}
 use Rattle.table.proofs.fold_up.Statement.{statement}

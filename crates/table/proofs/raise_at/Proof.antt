@@ -1,12 +1,6 @@
 -- `table::raise_at` meets its contract. Assumes nothing.
 use Rattle.table.proofs.Passing.{raised-root, raised-more, up-low}
--- `table::raise_at` meets its contract. Assumes nothing.
-use Rattle.table.proofs.Passing.{raised-root, raised-more, up-low}
--- `table::raise_at` meets its contract. Assumes nothing.
-use Rattle.table.proofs.Passing.{raised-root, raised-more, up-low}
--- `table::raise_at` meets its contract. Assumes nothing.
 use native.Mathlib.Omega.{arith}
-use Rattle.table.proofs.Passing.{raised-root, raised-more, up-low}
 use borrow.Author.Needs.{needs}
 use Rattle.table.proofs.raise_at.Statement.{statement}
 use Rattle.table.proofs.raise_at.Tie as tie

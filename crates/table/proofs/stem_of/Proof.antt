@@ -2,26 +2,10 @@
 use mathlib.Core.Path.{_∙_, ap₂}
 use lib.ListN.{length}
 use Rattle.tree.proofs.InRows.{treeIn}
--- `table::stem_of` meets its contract. Assumes nothing.
-use mathlib.Core.Path.{_∙_, ap₂}
-use lib.ListN.{length}
-use Rattle.tree.proofs.InRows.{treeIn}
--- `table::stem_of` meets its contract. Assumes nothing.
-use mathlib.Core.Path.{_∙_, ap₂}
-use lib.ListN.{length}
-use Rattle.tree.proofs.InRows.{treeIn}
--- `table::stem_of` meets its contract. Assumes nothing.
-use mathlib.Core.Path.{_∙_, ap₂}
-use lib.ListN.{length}
-use Rattle.tree.proofs.InRows.{treeIn}
--- `table::stem_of` meets its contract. Assumes nothing.
 use Prim.Native.Nat.{ℕ, _*_, _-_}
-use mathlib.Core.Path.{_∙_, ap₂}
 use Rattle.table.specs.Work.{Stemming}
 use Rattle.tree.specs.Tree.{route}
 use native.Mathlib.Omega.{arith}
-use lib.ListN.{length}
-use Rattle.tree.proofs.InRows.{treeIn}
 use Rattle.table.proofs.Stems.{stem-start, stem-end, counts-less, term-fits, sum-fits, stem-more, stem-less}
 use borrow.Author.Needs.{needs}
 use Rattle.table.proofs.stem_of.Statement.{statement}

@@ -1,10 +1,6 @@
 -- `table::step_side` meets its contract. Assumes nothing.
 use Rattle.table.proofs.Sides.{down-less, over-less, over-fits, step-carries}
--- `table::step_side` meets its contract. Assumes nothing.
-use Rattle.table.proofs.Sides.{down-less, over-less, over-fits, step-carries}
--- `table::step_side` meets its contract. Assumes nothing.
 use native.Mathlib.Omega.{arith}
-use Rattle.table.proofs.Sides.{down-less, over-less, over-fits, step-carries}
 use borrow.Author.Needs.{needs}
 use Rattle.table.proofs.step_side.Statement.{statement}
 use Rattle.table.proofs.step_side.Tie as tie

@@ -2,7 +2,6 @@
 use Rattle.tree.proofs.Answering.{room-taken, rows-refused, hops-filled}
 use Rattle.network.specs.Network.{netOf}
 use mathlib.Core.Path.{_∙_, sym}
-use Rattle.tree.proofs.Answering.{room-taken, rows-refused, hops-filled}
 use borrow.Author.Needs.{needs}
 use Rattle.tree.proofs.all_hops.Statement.{statement}
 use Rattle.tree.proofs.all_hops.Tie as tie

@@ -2,7 +2,6 @@
 use Rattle.tree.proofs.Onto.{onto-same}
 use Rattle.tree.proofs.Answering.{nodes-known, part-known, root-there}
 use native.Mathlib.Omega.{arith}
-use Rattle.tree.proofs.Answering.{nodes-known, part-known, root-there}
 use borrow.Author.Needs.{needs}
 use Rattle.tree.proofs.climb_to_meet.Statement.{statement}
 use Rattle.tree.proofs.climb_to_meet.Tie as tie

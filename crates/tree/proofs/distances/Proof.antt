@@ -2,7 +2,6 @@
 use Rattle.tree.proofs.Answering.{room-taken, rows-refused, distances-filled}
 use Rattle.network.specs.Network.{netOf}
 use mathlib.Core.Path.{_∙_, sym}
-use Rattle.tree.proofs.Answering.{room-taken, rows-refused, distances-filled}
 use borrow.Author.Needs.{needs}
 use Rattle.tree.proofs.distances.Statement.{statement}
 use Rattle.tree.proofs.distances.Tie as tie

@@ -1,7 +1,6 @@
 -- `tree::meet_of` meets its contract. Assumes nothing.
 use Rattle.tree.proofs.Answering.{ways-known, ways-lost, met}
 use mathlib.Core.Path.{_∙_, sym}
-use Rattle.tree.proofs.Answering.{ways-known, ways-lost, met}
 use borrow.Author.Needs.{needs}
 use Rattle.tree.proofs.meet_of.Statement.{statement}
 use Rattle.tree.proofs.meet_of.Tie as tie

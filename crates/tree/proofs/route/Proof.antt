@@ -4,7 +4,6 @@ use Prim.Native.Nat.{_+_}
 use lib.ListN.{length}
 use mathlib.Core.Path.{_∙_, sym}
 use native.Mathlib.Omega.{arith}
-use Rattle.tree.proofs.Answering.{way-known, nodes-known, route-lost, route-tight, fits-room, route-written}
 use borrow.Author.Needs.{needs}
 use Rattle.tree.proofs.route.Statement.{statement}
 use Rattle.tree.proofs.route.Tie as tie

@@ -3,7 +3,6 @@ use Rattle.tree.proofs.Answering.{ways-known, ways-lost, parted, parted
 use Rattle.tree.proofs.Onto.{onto-less}
 use mathlib.Core.Path.{_∙_, sym}
 use native.Mathlib.Omega.{arith}
-use Rattle.tree.proofs.Answering.{ways-known, ways-lost, parted, parted-small}
 use borrow.Author.Needs.{needs}
 use Rattle.tree.proofs.tree_distance.Statement.{statement}
 use Rattle.tree.proofs.tree_distance.Tie as tie
