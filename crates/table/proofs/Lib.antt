@@ -10,3 +10,4 @@ pub mod Pricing
 pub mod Offering
 pub mod TwoSides
 pub mod Linking
+pub mod Skipping

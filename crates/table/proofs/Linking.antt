@@ -63,7 +63,7 @@ module _ (g : Net) (s : Sound g) (e k : ℕ) (p : Spare g e k) where
   unfolding crosses treeOf
   spare-crosses x l r = rw (p .serves, not-own x l r)
 
-and-none : (a : Bool) → (a && false) ≡ false
+pub and-none : (a : Bool) → (a && false) ≡ false
 and-none true = refl
 and-none false = refl
 

@@ -6,7 +6,7 @@ ghost use lib.Seq.{sets};
 ghost use Rattle.edition.specs.Limits.{nodeLimit, entryWidth};
 ghost use Rattle.edition.specs.Entries.{entryRow};
 ghost use Rattle.edition.specs.declared.Verdict.the-variants.{Taken};
-ghost use Rattle.network.specs.Network.{netOf};
+ghost use Rattle.network.specs.Network.{netOf, linksIn};
 ghost use Rattle.rows.specs.Count.{rowWith};
 ghost use Rattle.tree.specs.Tree.{treeOf, dist};
 ghost use Rattle.sound.specs.Sound.{netVerdict};
@@ -441,4 +441,55 @@ fn climb_link(
             b = step_side(b, links, parents, search, near, asides);
         }
     }
+}
+
+// Offers link e to every marked node that it crosses; a link out of service and a tree link cross none.
+fn offer_link(
+    links: &[u16],
+    parents: &[u16],
+    search: Search,
+    near: &[u64],
+    count: &[u64],
+    deep: &[u64],
+    bases: &[u64],
+    turns: &[u64],
+    asides: &[u64],
+    marks: &[u64],
+    entries: &mut [u64],
+    e: usize,
+)
+    requires { ⌜ (netVerdict (netOf (now links) (now parents) search) ≡ Taken) × Ready (treeOf (netOf (now links) (now parents) search)) (length (now parents)) (now near) (now count) (now bases) (now turns) × Asides (treeOf (netOf (now links) (now parents) search)) (length (now parents)) (now asides) × Holds (length (now parents)) (deepest (treeOf (netOf (now links) (now parents) search))) (now deep) × (length (now parents) * entryWidth ≤ length (now entries)) × (e < linksIn (now links)) ⌝ }
+    ensures { λ _. ⌜ Linked (netOf (now (links .entry)) (now (parents .entry)) search) (length (now (parents .entry))) (now (marks .entry)) e (now (entries .entry)) (now (entries .exit)) ⌝ }
+{
+    let l = network::link_at(links, e);
+    if !network::in_service(l) {
+        return;
+    }
+    let p = l.first as usize;
+    let q = l.second as usize;
+    if network::parent_of(parents, p) as usize == e {
+        return;
+    }
+    if network::parent_of(parents, q) as usize == e {
+        return;
+    }
+    let k = rows::wide_at(near, p) + l.length as u64 + rows::wide_at(near, q);
+    let a = begin_side(links, parents, search, near, deep, p);
+    let b = begin_side(links, parents, search, near, deep, q);
+    climb_link(
+        links,
+        parents,
+        search,
+        near,
+        count,
+        bases,
+        turns,
+        asides,
+        marks,
+        entries,
+        a,
+        b,
+        e,
+        k,
+    );
 }
