@@ -11,3 +11,4 @@ pub mod Offering
 pub mod TwoSides
 pub mod Linking
 pub mod Skipping
+pub mod Searching

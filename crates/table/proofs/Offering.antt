@@ -42,11 +42,11 @@ module _ (g : Net) (marks before : List ℕ) where
   unfolding want
   want-unmarked k j x e = rw e
 
-not-marked : (marks : List ℕ) (x m : ℕ) → m ≡ getD marks x 0 → m ≡ 0 → marked marks x ≡ false
+pub not-marked : (marks : List ℕ) (x m : ℕ) → m ≡ getD marks x 0 → m ≡ 0 → marked marks x ≡ false
 unfolding marked
 not-marked marks x m q z = rw (eq-eqb (getD marks x 0) 0 (sym q ∙ z))
 
-is-marked : (marks : List ℕ) (x m : ℕ) → m ≡ getD marks x 0 → (m ≡ 0 → ⊥) → marked marks x ≡ true
+pub is-marked : (marks : List ℕ) (x m : ℕ) → m ≡ getD marks x 0 → (m ≡ 0 → ⊥) → marked marks x ≡ true
 unfolding marked
 is-marked marks x m q z = rw (ne-eqb (getD marks x 0) 0 (λ y. z (q ∙ y)))
 

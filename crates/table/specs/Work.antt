@@ -8,7 +8,7 @@ use lib.ListN.{length, getD, set}
 use Rattle.edition.specs.declared.Swap.{Swap}
 use Rattle.edition.specs.declared.Entry.{Entry}
 use Rattle.edition.specs.Limits.{entryWidth, wholeSearch}
-use Rattle.edition.specs.Entries.{entryRow}
+use Rattle.edition.specs.Entries.{rootState, bridgeState, blank, entryRow}
 use Rattle.rows.specs.Count.{sumTo, maxTo, onlyIf}
 use Rattle.edition.specs.declared.Measure.the-variants.{Sum, Incr, Max}
 use Rattle.network.specs.declared.Link.{Link}
@@ -173,3 +173,14 @@ pub record Starting (g : Net) (e : ℕ) (a b : Side) : Type 0 where
   pub one-at : a .climb .node ≡ g .link e .first
   pub two : Carries (treeOf g) (g .link e .second) b
   pub two-at : b .climb .node ≡ g .link e .second
+
+-- the record of x before any link: the root's or a bridge's where x is marked, as it stood elsewhere
+unfoldable pub startAt : ℕ → List ℕ → List ℕ → ℕ → List ℕ
+startAt root marks before x =
+    let first = blank (cond (eqb x root) rootState bridgeState) in
+    cond (marked marks x) (entryRow first) (standing before x)
+
+-- a row of entries goes on from no links to k
+pub record LinkedTo (g : Net) (n : ℕ) (marks : List ℕ) (k : ℕ) (row row′ : List ℕ) : Type 0 where
+  pub size : length row′ ≡ length row
+  pub goes-on : (before : List ℕ) → Entries n (want g marks before 0) before row → Entries n (want g marks before k) before row′

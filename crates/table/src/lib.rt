@@ -2,16 +2,18 @@
 ghost use mathlib.Core.Path.{_≡_};
 ghost use Prim.Native.Nat.{ℕ, _+_, _*_, _<_, _≤_, _^_, max};
 ghost use lib.ListN.{length, getD};
+ghost use lib.Dec.{eqb};
+ghost use mathlib.Core.Bool.{cond};
 ghost use lib.Seq.{sets};
 ghost use Rattle.edition.specs.Limits.{nodeLimit, entryWidth};
-ghost use Rattle.edition.specs.Entries.{entryRow};
+ghost use Rattle.edition.specs.Entries.{entryRow, blank, rootState, bridgeState};
 ghost use Rattle.edition.specs.declared.Verdict.the-variants.{Taken};
 ghost use Rattle.network.specs.Network.{netOf, linksIn};
 ghost use Rattle.rows.specs.Count.{rowWith};
 ghost use Rattle.tree.specs.Tree.{treeOf, dist};
 ghost use Rattle.sound.specs.Sound.{netVerdict};
 ghost use Rattle.swap.specs.Fold.{count as countOf, weight as weightOf, stem, base as baseOf, turn as turnOf, deepest};
-ghost use Rattle.table.specs.Work.{Holds, FoldedAt, Foldable, Added, Counted, placed, Raised, Passed, Asides, entryAt, Carries, Crossing, Priced, Ready, OfferedAt, withinBy, Spare, Starting, Linked};
+ghost use Rattle.table.specs.Work.{Holds, FoldedAt, Foldable, Added, Counted, placed, Raised, Passed, Asides, entryAt, Carries, Crossing, Priced, Ready, OfferedAt, withinBy, Spare, Starting, Linked, LinkedTo, Entries, startAt, marked};
 use edition::Edition;
 use edition::Entry;
 use edition::Memory;
@@ -492,4 +494,75 @@ fn offer_link(
         e,
         k,
     );
+}
+
+// The entry of x before any link: the root's, or a bridge's.
+fn first_entry(search: Search, x: usize) -> Entry
+    ensures { λ r. ⌜ r ≡ blank (cond (eqb x (search .root)) rootState bridgeState) ⌝ }
+{
+    if x == search.root as usize {
+        return Edition::root_entry();
+    }
+    Edition::blank_entry(Edition::BRIDGE)
+}
+
+// The entry of x as it is before any link, where x is marked.
+fn clear_at(search: Search, marks: &[u64], entries: &mut [u64], x: usize)
+    requires { ⌜ (x < nodeLimit) × (x * entryWidth + entryWidth ≤ length (now entries)) ⌝ }
+    ensures { λ _. ⌜ now (entries .exit) ≡ cond (marked (now (marks .entry)) x) (sets (now (entries .entry)) (x * entryWidth) (entryRow (blank (cond (eqb x (search .root)) rootState bridgeState)))) (now (entries .entry)) ⌝ }
+{
+    if rows::wide_at(marks, x) == 0 {
+        return;
+    }
+    put(entries, x, first_entry(search, x));
+}
+
+// Each marked node's entry as it is before any link.
+fn clear_marked(parents: &[u16], search: Search, marks: &[u64], entries: &mut [u64])
+    requires { ⌜ (length (now parents) ≤ nodeLimit) × (length (now parents) * entryWidth ≤ length (now entries)) ⌝ }
+    ensures { λ _. ⌜ Entries (length (now (parents .entry))) (startAt (search .root) (now (marks .entry)) (now (entries .entry))) (now (entries .entry)) (now (entries .exit)) ⌝ }
+{
+    let mut x = 0;
+    while x < parents.len() {
+        clear_at(search, marks, entries, x);
+        x += 1;
+    }
+}
+
+// Offers every link, in number order.
+fn offer_links(
+    links: &[u16],
+    parents: &[u16],
+    search: Search,
+    near: &[u64],
+    count: &[u64],
+    deep: &[u64],
+    bases: &[u64],
+    turns: &[u64],
+    asides: &[u64],
+    marks: &[u64],
+    entries: &mut [u64],
+)
+    requires { ⌜ (netVerdict (netOf (now links) (now parents) search) ≡ Taken) × Ready (treeOf (netOf (now links) (now parents) search)) (length (now parents)) (now near) (now count) (now bases) (now turns) × Asides (treeOf (netOf (now links) (now parents) search)) (length (now parents)) (now asides) × Holds (length (now parents)) (deepest (treeOf (netOf (now links) (now parents) search))) (now deep) × (length (now parents) * entryWidth ≤ length (now entries)) ⌝ }
+    ensures { λ _. ⌜ LinkedTo (netOf (now (links .entry)) (now (parents .entry)) search) (length (now (parents .entry))) (now (marks .entry)) (linksIn (now (links .entry))) (now (entries .entry)) (now (entries .exit)) ⌝ }
+{
+    let m = network::links_in(links);
+    let mut e = 0;
+    while e < m {
+        offer_link(
+            links,
+            parents,
+            search,
+            near,
+            count,
+            deep,
+            bases,
+            turns,
+            asides,
+            marks,
+            entries,
+            e,
+        );
+        e += 1;
+    }
 }
