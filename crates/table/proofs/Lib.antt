@@ -12,3 +12,5 @@ pub mod TwoSides
 pub mod Linking
 pub mod Skipping
 pub mod Searching
+pub mod Preparing
+pub mod Whole

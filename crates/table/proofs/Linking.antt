@@ -28,8 +28,8 @@ use Rattle.swap.specs.Prefix.{firstLinks}
 use Rattle.swap.specs.Fold.{count, through}
 use Rattle.swap.proofs.Prefixes.{entry-unmoved, entry-top}
 use Rattle.table.specs.declared.Side.{Side}
-use Rattle.table.specs.Table.{standing}
-use Rattle.table.specs.Work.{Holds, Entries, Carries, Crossing, marked, want, OfferedAt, Ready, Spare, Linked}
+use Rattle.table.specs.Table.{standing, marked}
+use Rattle.table.specs.Work.{Holds, Entries, Carries, Crossing, want, OfferedAt, Ready, Spare, Linked}
 use Rattle.table.proofs.BothSides.{all-in, closed-in}
 use Rattle.table.proofs.Moving.{passed-none, passed-more}
 use Rattle.table.proofs.Offering.{entries-same}

@@ -24,8 +24,8 @@ use Rattle.swap.specs.Prefix.{firstLinks, offered}
 use Rattle.swap.specs.declared.Costs.{Costs}
 use Rattle.swap.proofs.Prefixes.{entry-offered}
 use Rattle.table.specs.declared.Side.{Side}
-use Rattle.table.specs.Table.{standing}
-use Rattle.table.specs.Work.{Entries, entryAt, Carries, Crossing, Priced, marked, want, OfferedAt, withinBy}
+use Rattle.table.specs.Table.{standing, marked}
+use Rattle.table.specs.Work.{Entries, entryAt, Carries, Crossing, Priced, want, OfferedAt, withinBy}
 use Rattle.table.proofs.Slots.{entry-known, entries-put}
 
 -- the same records, told otherwise

@@ -15,8 +15,8 @@ use Rattle.network.specs.Network.{Net}
 use Rattle.swap.specs.Prefix.{firstLinks}
 use Rattle.swap.specs.Entry.{entry}
 use Rattle.swap.proofs.Prefixes.{entry-top, entry-none}
-use Rattle.table.specs.Table.{standing}
-use Rattle.table.specs.Work.{Entries, marked, want, startAt, Linked, LinkedTo}
+use Rattle.table.specs.Table.{standing, marked}
+use Rattle.table.specs.Work.{Entries, want, startAt, Linked, LinkedTo}
 use Rattle.table.proofs.Slots.{entries-put}
 use Rattle.table.proofs.Offering.{entries-same, not-marked, is-marked}
 

@@ -1,8 +1,9 @@
 -- The table: an entry a node, in node order, in a lent row. Assumes nothing.
+use mathlib.Core.Bool.{Bool, cond, not}
 use mathlib.Core.List.{List, [], _∷_, _++_}
 use Prim.Native.Nat.{ℕ, _*_, _/_}
-use lib.Dec.{ltb}
-use lib.ListN.{length, take, drop}
+use lib.Dec.{eqb, ltb}
+use lib.ListN.{length, getD, take, drop}
 use Rattle.edition.specs.declared.Verdict.{Verdict}
 use Rattle.edition.specs.declared.Why.the-variants.{NoRoom}
 use Rattle.edition.specs.Limits.{entryWidth}
@@ -33,3 +34,17 @@ tableVerdict g row = firstly (netVerdict g ∷ refuseIf (ltb (entriesIn row) (g 
 -- What the lent row then holds: the table and what lay past it, or on a refusal what it held.
 unfoldable pub tableRow : Net → List ℕ → List ℕ
 tableRow g row = let new = table g ++ drop (g .nodes * entryWidth) row in made (tableVerdict g row) new row
+
+-- Is a node among those to be worked out?
+unfoldable pub marked : List ℕ → ℕ → Bool
+marked marks x = not (eqb (getD marks x 0) 0)
+
+-- The record of x: its entry's where x is marked, elsewhere as it stands.
+unfoldable pub freshAt : Net → List ℕ → List ℕ → ℕ → List ℕ
+freshAt g marks row x = cond (marked marks x) (entryRow (entry g x)) (standing row x)
+
+-- The lent row with the entries of the marked nodes afresh, or on a refusal what it held.
+unfoldable pub freshRow : Net → List ℕ → List ℕ → List ℕ
+freshRow g marks row =
+    let new = rowsTo (freshAt g marks row) (g .nodes) ++ drop (g .nodes * entryWidth) row in
+    made (tableVerdict g row) new row

@@ -22,7 +22,7 @@ use Rattle.tree.specs.Work.{Along}
 use Rattle.swap.specs.Entry.{entry}
 use Rattle.swap.specs.Prefix.{firstLinks}
 use Rattle.table.specs.declared.Side.{Side}
-use Rattle.table.specs.Table.{standing}
+use Rattle.table.specs.Table.{standing, marked}
 
 -- a row holds f of each node
 pub record Holds (n : ℕ) (f : ℕ → ℕ) (row : List ℕ) : Type 0 where
@@ -138,10 +138,6 @@ pub record Ready (t : Tree) (n : ℕ) (near count bases turns : List ℕ) : Type
   pub counts : Holds n (countOf t) count
   pub bases-are : Holds n (baseOf t) bases
   pub turns-are : Holds n (turnOf t) turns
-
--- is a node among those that are worked out?
-unfoldable pub marked : List ℕ → ℕ → Bool
-marked marks x = not (eqb (getD marks x 0) 0)
 
 -- the record of x after k links: worked out where it is marked, as it stood elsewhere
 unfoldable pub want : Net → List ℕ → List ℕ → ℕ → ℕ → List ℕ

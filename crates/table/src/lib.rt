@@ -13,12 +13,15 @@ ghost use Rattle.rows.specs.Count.{rowWith};
 ghost use Rattle.tree.specs.Tree.{treeOf, dist};
 ghost use Rattle.sound.specs.Sound.{netVerdict};
 ghost use Rattle.swap.specs.Fold.{count as countOf, weight as weightOf, stem, base as baseOf, turn as turnOf, deepest};
-ghost use Rattle.table.specs.Work.{Holds, FoldedAt, Foldable, Added, Counted, placed, Raised, Passed, Asides, entryAt, Carries, Crossing, Priced, Ready, OfferedAt, withinBy, Spare, Starting, Linked, LinkedTo, Entries, startAt, marked};
+ghost use Rattle.table.specs.Work.{Holds, FoldedAt, Foldable, Added, Counted, placed, Raised, Passed, Asides, entryAt, Carries, Crossing, Priced, Ready, OfferedAt, withinBy, Spare, Starting, Linked, LinkedTo, Entries, startAt};
+ghost use Rattle.table.specs.Table.{marked, freshAt, tableVerdict, freshRow, tableRow};
 use edition::Edition;
 use edition::Entry;
 use edition::Memory;
 use edition::Search;
 use edition::Swap;
+use edition::Verdict;
+use edition::Why;
 use swap::Costs;
 use tree::Climb;
 
@@ -565,4 +568,94 @@ fn offer_links(
         );
         e += 1;
     }
+}
+
+// The entries of the marked nodes afresh; all others, and what lies past the entries, stay as they are.
+fn search_marked(links: &[u16], parents: &[u16], search: Search, marks: &[u64], entries: &mut [u64])
+    requires { ⌜ (netVerdict (netOf (now links) (now parents) search) ≡ Taken) × (length (now parents) * entryWidth ≤ length (now entries)) ⌝ }
+    ensures { λ _. ⌜ Entries (length (now (parents .entry))) (freshAt (netOf (now (links .entry)) (now (parents .entry)) search) (now (marks .entry)) (now (entries .entry))) (now (entries .entry)) (now (entries .exit)) ⌝ }
+{
+    let mut near = [0u64; Memory::NODES];
+    tree::distances(links, parents, search, &mut near);
+    let mut count = [0u64; Memory::NODES];
+    let mut weight = [0u64; Memory::NODES];
+    let mut deep = [0u64; Memory::NODES];
+    fold_all(
+        links,
+        parents,
+        search,
+        &near,
+        &mut count,
+        &mut weight,
+        &mut deep,
+    );
+    let mut bases = [0u64; Memory::NODES];
+    let mut turns = [0u64; Memory::NODES];
+    fill_bases(
+        links,
+        parents,
+        search,
+        &near,
+        &count,
+        &weight,
+        &mut bases,
+        &mut turns,
+    );
+    let mut asides = [0u64; Memory::NODES];
+    fill_asides(links, parents, search, &deep, &mut asides);
+    clear_marked(parents, search, marks, entries);
+    offer_links(
+        links,
+        parents,
+        search,
+        &near,
+        &count,
+        &deep,
+        &bases,
+        &turns,
+        &asides,
+        marks,
+        entries,
+    );
+}
+
+// Whether a table can be worked out: refusals 1 to 9, then 10 where fewer entries are lent than there are nodes.
+pub fn check_table(links: &[u16], parents: &[u16], search: Search, entries: &[u64]) -> Verdict
+    ensures { λ r. ⌜ r ≡ tableVerdict (netOf (now (links .entry)) (now (parents .entry)) search) (now (entries .entry)) ⌝ }
+{
+    let said = sound::verdict(links, parents, search);
+    let Verdict::Taken = said else {
+        return said;
+    };
+    rows::refuse_if(
+        entries.len() / Memory::ENTRY < parents.len(),
+        Why::NoRoom,
+        0,
+    )
+}
+
+// The entries of the marked nodes afresh, all others unwritten. A node is marked by a number that is not 0.
+pub fn refresh(
+    links: &[u16],
+    parents: &[u16],
+    search: Search,
+    marks: &[u64],
+    entries: &mut [u64],
+) -> Verdict
+    ensures { λ r. ⌜ (r ≡ tableVerdict (netOf (now (links .entry)) (now (parents .entry)) search) (now (entries .entry))) × (now (entries .exit) ≡ freshRow (netOf (now (links .entry)) (now (parents .entry)) search) (now (marks .entry)) (now (entries .entry))) ⌝ }
+{
+    let said = check_table(links, parents, search, entries);
+    let Verdict::Taken = said else {
+        return said;
+    };
+    search_marked(links, parents, search, marks, entries);
+    Verdict::Taken
+}
+
+// The table of all entries, into a lent row. Nothing is written on a refusal, nor past the last entry.
+pub fn table(links: &[u16], parents: &[u16], search: Search, entries: &mut [u64]) -> Verdict
+    ensures { λ r. ⌜ (r ≡ tableVerdict (netOf (now (links .entry)) (now (parents .entry)) search) (now (entries .entry))) × (now (entries .exit) ≡ tableRow (netOf (now (links .entry)) (now (parents .entry)) search) (now (entries .entry))) ⌝ }
+{
+    let marks = [1u64; Memory::NODES];
+    refresh(links, parents, search, &marks, entries)
 }

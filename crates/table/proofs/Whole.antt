@@ -1,0 +1,99 @@
+-- The lent row as a whole: some entries afresh, and the table as the case of all. Assumes nothing.
+use mathlib.Core.Path.{_≡_, refl, sym, subst, ap, _∙_}
+use mathlib.Core.Bool.{Bool, true, false, cond, not}
+use mathlib.Core.List.{List, [], _∷_, _++_}
+use Prim.Native.Nat.{ℕ, suc, _+_, _*_, _/_, _<_, _≤_}
+use native.Mathlib.Omega.{arith}
+use lib.Dec.{eqb, ltb}
+use lib.ListN.{length, getD, replicate, drop, take, getD-replicate, length-replicate, length-drop}
+use lib.Seq.{length-take-le}
+use borrow.Author.Tests.{ltb-true, ltb-false, lt-ltb}
+use Rattle.edition.specs.declared.Refusal.{Refusal}
+use Rattle.edition.specs.declared.Verdict.{Verdict}
+use Rattle.edition.specs.declared.Verdict.the-variants.{Taken, Refused}
+use Rattle.edition.specs.declared.Why.the-variants.{NoRoom}
+use Rattle.edition.specs.Limits.{nodeLimit, entryWidth}
+use Rattle.edition.specs.Refusals.{made}
+use Rattle.edition.specs.Entries.{entryRow}
+use Rattle.rows.specs.Count.{rowsTo}
+use Rattle.rows.specs.First.{refuseIf, firstly}
+use Rattle.rows.proofs.Refusing.{head-taken, rest-taken, if-taken}
+use Rattle.rows.proofs.Records.{rows-cong}
+use Rattle.network.specs.Network.{Net}
+use Rattle.sound.specs.Sound.{netVerdict}
+use Rattle.sound.proofs.Sounds.{sound}
+use Rattle.sound.proofs.Holding.{nodes-few}
+use Rattle.swap.specs.Entry.{entry}
+use Rattle.table.specs.Table.{table, standing, marked, freshAt, entriesIn, tableVerdict, tableRow, freshRow}
+use Rattle.table.specs.Work.{Entries}
+use Rattle.table.proofs.Slots.{entries-list}
+use Rattle.table.proofs.Offering.{entries-same}
+
+-- a row of records whose width is known for the nodes alone
+list-in : (n : ℕ) (f : ℕ → List ℕ) (before row : List ℕ) → ((x : ℕ) → x < n → length (f x) ≡ entryWidth) → n * entryWidth ≤ length before → Entries n f before row → row ≡ rowsTo f n ++ drop (n * entryWidth) before
+list-in n f before row sized room h =
+    entries-list n wide before row wide-size room (entries-same n f wide before row (λ x l. sym (wide-in x l)) h) ∙
+    ap (λ (r : List ℕ). r ++ drop (n * entryWidth) before) (rows-cong wide f n wide-in)
+  where
+    wide : ℕ → List ℕ
+    wide x = cond (ltb x n) (f x) (replicate entryWidth 0)
+
+    wide-in : (x : ℕ) → x < n → wide x ≡ f x
+    wide-in x l = rw (lt-ltb x n l)
+
+    wide-size : (x : ℕ) → length (wide x) ≡ entryWidth
+    wide-size x = go (ltb x n) refl
+      where
+        go : (b : Bool) → ltb x n ≡ b → length (wide x) ≡ entryWidth
+        go true q = rw q (sized x (ltb-true x n q))
+        go false q = rw q (length-replicate {A = ℕ} entryWidth 0)
+
+module _ (g : Net) (row : List ℕ) where
+  -- what 1 to 10 leave
+  pub table-sound : (v : Verdict) → v ≡ tableVerdict g row → v ≡ Taken → netVerdict g ≡ Taken
+  unfolding tableVerdict
+  table-sound v q t = head-taken _ _ (sym q ∙ t)
+
+  pub table-room : (v : Verdict) → v ≡ tableVerdict g row → v ≡ Taken → g .nodes * entryWidth ≤ length row
+  unfolding tableVerdict
+  table-room v q t =
+      omega (arith, ltb-false (entriesIn row) (g .nodes) (if-taken _ NoRoom 0 (head-taken _ _ (rest-taken _ _ (sym q ∙ t)))))
+
+  stands : (x : ℕ) → x < g .nodes → g .nodes * entryWidth ≤ length row → length (standing row x) ≡ entryWidth
+  unfolding standing
+  stands x l room = length-take-le entryWidth (drop (x * entryWidth) row) (omega (arith, length-drop (x * entryWidth) row, l, room))
+
+  module _ (marks : List ℕ) where
+    fresh-size : g .nodes * entryWidth ≤ length row → (x : ℕ) → x < g .nodes → length (freshAt g marks row x) ≡ entryWidth
+    unfolding freshAt entryRow
+    fresh-size room x l = go (marked marks x) refl
+      where
+        go : (b : Bool) → marked marks x ≡ b → length (freshAt g marks row x) ≡ entryWidth
+        go true q = rw q refl
+        go false q = rw q (stands x l room)
+
+    pub fresh-taken : (v : Verdict) → v ≡ tableVerdict g row → v ≡ Taken → (row′ : List ℕ) → Entries (g .nodes) (freshAt g marks row) row row′ → (Taken ≡ tableVerdict g row) × (row′ ≡ freshRow g marks row)
+    unfolding freshRow
+    fresh-taken v q t row′ h =
+        (sym t ∙ q, rw (← q, t) (list-in (g .nodes) (freshAt g marks row) row row′ (fresh-size (table-room v q t)) (table-room v q t) h))
+
+    pub fresh-refused : (v : Verdict) (r : Refusal) → v ≡ tableVerdict g row → v ≡ Refused r → (v ≡ tableVerdict g row) × (row ≡ freshRow g marks row)
+    unfolding freshRow
+    fresh-refused v r q t = (q, rw (← q, t))
+
+  -- all nodes
+  one-marked : (x : ℕ) → x < nodeLimit → marked (replicate nodeLimit 1) x ≡ true
+  unfolding marked
+  one-marked x l = rw (getD-replicate {A = ℕ} nodeLimit x 1 0 l)
+
+  pub all-fresh : freshRow g (replicate nodeLimit 1) row ≡ tableRow g row
+  unfolding freshRow tableRow table freshAt
+  all-fresh = go (tableVerdict g row) refl
+    where
+      go : (v : Verdict) → tableVerdict g row ≡ v → freshRow g (replicate nodeLimit 1) row ≡ tableRow g row
+      go Taken q =
+          rw q
+          (ap (λ (r : List ℕ). r ++ drop (g .nodes * entryWidth) row)
+          (rows-cong (freshAt g (replicate nodeLimit 1) row) (λ x. entryRow (entry g x)) (g .nodes)
+          (λ x l. rw (one-marked x (omega (arith, l, nodes-few g (sound g (table-sound Taken (sym q) refl))))))))
+      go (Refused r) q = rw q

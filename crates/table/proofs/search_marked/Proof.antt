@@ -1,0 +1,116 @@
+-- `table::search_marked` meets its contract. Assumes nothing.
+use Rattle.table.proofs.Counts.{small}
+use native.Mathlib.Omega.{arith}
+use Rattle.table.proofs.Preparing.{holds-row, room-for, zeros, none-counted, nears, counts-all, weights-all, deeps-all, fresh-end}
+use borrow.Author.Needs.{needs}
+use Rattle.table.proofs.search_marked.Statement.{statement}
+use Rattle.table.proofs.search_marked.Tie as tie
+
+slice-aggregate-distances : tie.Need-slice-aggregate-distances
+slice-aggregate-distances c = search needs
+
+distances-requires : tie.Need-distances-requires
+distances-requires c κs = search needs
+
+slice-aggregate-fold-all : tie.Need-slice-aggregate-fold-all
+slice-aggregate-fold-all c = search needs
+
+slice-aggregate-fold-all-2 : tie.Need-slice-aggregate-fold-all-2
+slice-aggregate-fold-all-2 c = search needs
+
+slice-aggregate-fold-all-3 : tie.Need-slice-aggregate-fold-all-3
+slice-aggregate-fold-all-3 c = search needs
+
+slice-aggregate-fold-all-4 : tie.Need-slice-aggregate-fold-all-4
+slice-aggregate-fold-all-4 c = search needs
+
+fold-all-requires : tie.Need-fold-all-requires
+fold-all-requires c κs = (c .before .before .before .before .before .before .before .before .before .before .before .pre .0, nears _ _ _ (c .before .before .before .before .before .before .before .before .before .before .before .pre .0) _ (c .before .before .before .before .before .distances .ensures .1), none-counted _ _ _ (c .before .before .before .before .before .before .before .before .before .before .before .pre .0))
+
+slice-aggregate-fill-bases : tie.Need-slice-aggregate-fill-bases
+slice-aggregate-fill-bases c = search needs
+
+slice-aggregate-fill-bases-2 : tie.Need-slice-aggregate-fill-bases-2
+slice-aggregate-fill-bases-2 c = search needs
+
+slice-aggregate-fill-bases-3 : tie.Need-slice-aggregate-fill-bases-3
+slice-aggregate-fill-bases-3 c = search needs
+
+slice-aggregate-fill-bases-4 : tie.Need-slice-aggregate-fill-bases-4
+slice-aggregate-fill-bases-4 c = search needs
+
+slice-aggregate-fill-bases-5 : tie.Need-slice-aggregate-fill-bases-5
+slice-aggregate-fill-bases-5 c = search needs
+
+fill-bases-requires : tie.Need-fill-bases-requires
+fill-bases-requires c κs = (c .before .before .before .before .before .before .before .before .before .before .before .before .before .before .before .before .before .before .before .before .pre .0, nears _ _ _ (c .before .before .before .before .before .before .before .before .before .before .before .before .before .before .before .before .before .before .before .before .pre .0) _ (c .before .before .before .before .before .before .before .before .before .before .before .before .before .before .distances .ensures .1), counts-all _ _ _ (c .before .before .before .before .before .before .before .before .before .before .before .before .before .before .before .before .before .before .before .before .pre .0) _ _ _ (c .before .before .before .before .before .before .before .before .fold-all .ensures), weights-all _ _ _ (c .before .before .before .before .before .before .before .before .before .before .before .before .before .before .before .before .before .before .before .before .pre .0) _ _ _ (c .before .before .before .before .before .before .before .before .fold-all .ensures), room-for _ _ _ (c .before .before .before .before .before .before .before .before .before .before .before .before .before .before .before .before .before .before .before .before .pre .0), room-for _ _ _ (c .before .before .before .before .before .before .before .before .before .before .before .before .before .before .before .before .before .before .before .before .pre .0))
+
+slice-aggregate-fill-asides : tie.Need-slice-aggregate-fill-asides
+slice-aggregate-fill-asides c = search needs
+
+slice-aggregate-fill-asides-2 : tie.Need-slice-aggregate-fill-asides-2
+slice-aggregate-fill-asides-2 c = search needs
+
+fill-asides-requires : tie.Need-fill-asides-requires
+fill-asides-requires c κs = (c .before .before .before .before .before .before .before .before .before .before .before .before .before .before .before .before .before .before .before .before .before .before .before .before .before .pre .0, deeps-all _ _ _ (c .before .before .before .before .before .before .before .before .before .before .before .before .before .before .before .before .before .before .before .before .before .before .before .before .before .pre .0) _ _ _ (c .before .before .before .before .before .before .before .before .before .before .before .before .before .fold-all .ensures), zeros _ _ _ (c .before .before .before .before .before .before .before .before .before .before .before .before .before .before .before .before .before .before .before .before .before .before .before .before .before .pre .0))
+
+clear-marked-requires : tie.Need-clear-marked-requires
+clear-marked-requires c κs = (small _ _ _ (c .before .before .before .before .before .before .before .before .before .before .before .before .before .before .before .before .before .before .before .before .before .before .before .before .before .before .before .before .pre .0) (λ i. omega (arith, c .before .before .before .before .before .before .before .before .before .before .before .before .before .before .before .before .before .before .before .before .before .before .before .before .before .before .before .shared-slice-known .given i)), c .before .before .before .before .before .before .before .before .before .before .before .before .before .before .before .before .before .before .before .before .before .before .before .before .before .before .before .before .pre .1)
+
+slice-aggregate-offer-links : tie.Need-slice-aggregate-offer-links
+slice-aggregate-offer-links c = search needs
+
+slice-aggregate-offer-links-2 : tie.Need-slice-aggregate-offer-links-2
+slice-aggregate-offer-links-2 c = search needs
+
+slice-aggregate-offer-links-3 : tie.Need-slice-aggregate-offer-links-3
+slice-aggregate-offer-links-3 c = search needs
+
+slice-aggregate-offer-links-4 : tie.Need-slice-aggregate-offer-links-4
+slice-aggregate-offer-links-4 c = search needs
+
+slice-aggregate-offer-links-5 : tie.Need-slice-aggregate-offer-links-5
+slice-aggregate-offer-links-5 c = search needs
+
+slice-aggregate-offer-links-6 : tie.Need-slice-aggregate-offer-links-6
+slice-aggregate-offer-links-6 c = search needs
+
+offer-links-requires : tie.Need-offer-links-requires
+offer-links-requires c κs = (c .before .before .before .before .before .before .before .before .before .before .before .before .before .before .before .before .before .before .before .before .before .before .before .before .before .before .before .before .before .before .before .before .before .before .before .before .before .before .pre .0, record { nears = nears _ _ _ (c .before .before .before .before .before .before .before .before .before .before .before .before .before .before .before .before .before .before .before .before .before .before .before .before .before .before .before .before .before .before .before .before .before .before .before .before .before .before .pre .0) _ (c .before .before .before .before .before .before .before .before .before .before .before .before .before .before .before .before .before .before .before .before .before .before .before .before .before .before .before .before .before .before .before .before .distances .ensures .1); counts = counts-all _ _ _ (c .before .before .before .before .before .before .before .before .before .before .before .before .before .before .before .before .before .before .before .before .before .before .before .before .before .before .before .before .before .before .before .before .before .before .before .before .before .before .pre .0) _ _ _ (c .before .before .before .before .before .before .before .before .before .before .before .before .before .before .before .before .before .before .before .before .before .before .before .before .before .before .fold-all .ensures); bases-are = holds-row _ _ _ _ (c .before .before .before .before .before .before .before .before .before .before .before .before .before .before .before .before .before .fill-bases .ensures .0) (room-for _ _ _ (c .before .before .before .before .before .before .before .before .before .before .before .before .before .before .before .before .before .before .before .before .before .before .before .before .before .before .before .before .before .before .before .before .before .before .before .before .before .before .pre .0)); turns-are = holds-row _ _ _ _ (c .before .before .before .before .before .before .before .before .before .before .before .before .before .before .before .before .before .fill-bases .ensures .1) (room-for _ _ _ (c .before .before .before .before .before .before .before .before .before .before .before .before .before .before .before .before .before .before .before .before .before .before .before .before .before .before .before .before .before .before .before .before .before .before .before .before .before .before .pre .0)) }, c .before .before .before .before .before .before .before .before .before .before .before .before .fill-asides .ensures, deeps-all _ _ _ (c .before .before .before .before .before .before .before .before .before .before .before .before .before .before .before .before .before .before .before .before .before .before .before .before .before .before .before .before .before .before .before .before .before .before .before .before .before .before .pre .0) _ _ _ (c .before .before .before .before .before .before .before .before .before .before .before .before .before .before .before .before .before .before .before .before .before .before .before .before .before .before .fold-all .ensures), omega (arith, c .before .before .before .before .before .before .before .before .before .before .before .before .before .before .before .before .before .before .before .before .before .before .before .before .before .before .before .before .before .before .before .before .before .before .before .before .before .before .pre .1, c .before .before .before .before .before .before .before .before .before .clear-marked .ensures .size))
+
+same-length : tie.Need-same-length
+same-length c = search needs
+
+returns : tie.Need-returns
+returns c = fresh-end _ _ _ (c .before .before .before .before .before .before .before .before .before .before .before .before .before .before .before .before .before .before .before .before .before .before .before .before .before .before .before .before .before .before .before .before .before .before .before .before .before .before .before .before .before .pre .0) _ _ _ _ (c .before .before .before .before .before .before .before .before .before .before .before .before .clear-marked .ensures) (c .before .before .offer-links .ensures)
+
+pub search-marked-spec : {M : Type 1} → statement M
+search-marked-spec =
+    tie.close
+    (tie.spec
+    slice-aggregate-distances
+    distances-requires
+    slice-aggregate-fold-all
+    slice-aggregate-fold-all-2
+    slice-aggregate-fold-all-3
+    slice-aggregate-fold-all-4
+    fold-all-requires
+    slice-aggregate-fill-bases
+    slice-aggregate-fill-bases-2
+    slice-aggregate-fill-bases-3
+    slice-aggregate-fill-bases-4
+    slice-aggregate-fill-bases-5
+    fill-bases-requires
+    slice-aggregate-fill-asides
+    slice-aggregate-fill-asides-2
+    fill-asides-requires
+    clear-marked-requires
+    slice-aggregate-offer-links
+    slice-aggregate-offer-links-2
+    slice-aggregate-offer-links-3
+    slice-aggregate-offer-links-4
+    slice-aggregate-offer-links-5
+    slice-aggregate-offer-links-6
+    offer-links-requires
+    same-length
+    returns)
