@@ -5,6 +5,7 @@ mod input;
 mod limits;
 mod ops;
 mod output;
+mod tables;
 
 use input::Heading;
 use limits::BYTES;

@@ -3,6 +3,7 @@
 use crate::checking;
 use crate::input;
 use crate::input::Head;
+use crate::tables;
 
 pub const CHECK: u16 = 1;
 
@@ -22,6 +23,9 @@ pub const PAYLOAD: u16 = 8;
 
 // Whether the op is in the probe's table.
 pub fn is_op(op: u16) -> bool {
+    if op == TABLE {
+        return true;
+    }
     op == CHECK
 }
 
@@ -51,6 +55,17 @@ pub fn answer(
             input::first(links, head.rest),
             input::first(parents, head.parents),
             head.search,
+            out,
+            at,
+        );
+    }
+    if op == TABLE {
+        return tables::table(
+            input::first(links, head.rest),
+            input::first(parents, head.parents),
+            head.search,
+            row,
+            head.room,
             out,
             at,
         );

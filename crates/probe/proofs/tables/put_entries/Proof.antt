@@ -1,0 +1,48 @@
+-- `probe::tables::put_entries` meets its contract. Assumes nothing.
+use Prim.Native.Nat.{_-_}
+use mathlib.Core.Path.{_≡_}
+use lib.ListN.{length}
+use borrow.Author.Needs.{needs}
+use Rattle.probe.proofs.tables.put_entries.Statement.{statement}
+use Rattle.probe.proofs.tables.put_entries.Tie as tie
+
+abbrev Inv-loop : tie.InvT-loop
+Inv-loop out₀ at row n waits₀ u₀ out waits u = length out ≡ length out₀
+
+abbrev μ-loop : tie.MeasureT-loop
+μ-loop out₀ at row n waits₀ u₀ out waits u = n - u
+
+loop-holds : tie.Need-loop-holds Inv-loop μ-loop
+loop-holds c = search needs
+
+put-entry-requires : tie.Need-put-entry-requires Inv-loop μ-loop
+put-entry-requires c κs = search needs
+
+add-u : tie.Need-add-u Inv-loop μ-loop
+add-u c = search needs
+
+loop-less : tie.Need-loop-less Inv-loop μ-loop
+loop-less c = search needs
+
+loop-again : tie.Need-loop-again Inv-loop μ-loop
+loop-again c = search needs
+
+same-length : tie.Need-same-length Inv-loop μ-loop
+same-length c = search needs
+
+returns : tie.Need-returns Inv-loop μ-loop
+returns c = search needs
+
+pub put-entries-spec : {M : Type 1} → statement M
+put-entries-spec =
+    tie.close
+    (tie.spec
+    Inv-loop
+    μ-loop
+    loop-holds
+    put-entry-requires
+    add-u
+    loop-less
+    loop-again
+    same-length
+    returns)

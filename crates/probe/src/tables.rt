@@ -1,0 +1,104 @@
+// Op 2: the table.
+ghost use Prim.Native.Nat.{_≤_};
+ghost use lib.ListN.{length};
+ghost use Rattle.edition.specs.Limits.{nodeLimit};
+use crate::output;
+use edition::Memory;
+use edition::Search;
+use edition::Verdict;
+
+// The number that lent room is filled with.
+const FILL: u64 = 7;
+
+// Fills a row.
+pub fn fill(row: &mut [u64]) {
+    let mut i = 0;
+    while i < row.len() {
+        row[i] = FILL;
+        i += 1;
+    }
+}
+
+// Whether all of a row from a place on is as it was filled.
+fn is_kept(row: &[u64], from: usize) -> bool {
+    let mut i = from;
+    while i < row.len() {
+        if row[i] != FILL {
+            return false;
+        }
+        i += 1;
+    }
+    true
+}
+
+// Prints `rest kept` or `rest changed` for a row from a place on.
+pub fn put_rest(out: &mut [u8], at: usize, row: &[u64], from: usize) -> usize {
+    if is_kept(row, from) {
+        return output::put(out, at, b"rest kept\n");
+    }
+    output::put(out, at, b"rest changed\n")
+}
+
+// Prints the entry line of node u.
+fn put_entry(out: &mut [u8], at: usize, row: &[u64], u: usize) -> usize
+    requires { ⌜ u ≤ nodeLimit ⌝ }
+{
+    let mut waits = output::put_number(out, at, u as u64);
+    let mut i = 0;
+    while i < Memory::ENTRY {
+        let spaced = output::put_space(out, waits);
+        waits = output::put_number(out, spaced, rows::wide_at(row, u * Memory::ENTRY + i));
+        i += 1;
+    }
+    output::put_newline(out, waits)
+}
+
+// Prints the entry lines of the first n nodes.
+fn put_entries(out: &mut [u8], at: usize, row: &[u64], n: usize) -> usize
+    requires { ⌜ n ≤ nodeLimit ⌝ }
+{
+    let mut waits = at;
+    let mut u = 0;
+    while u < n {
+        waits = put_entry(out, waits, row, u);
+        u += 1;
+    }
+    waits
+}
+
+// Prints what a call for a table answered, and what it left in the row.
+fn put_table(said: Verdict, n: usize, row: &[u64], out: &mut [u8], at: usize) -> usize {
+    let named = output::put(out, at, b"table");
+    match said {
+        Verdict::Taken => {
+            let told = output::put(out, named, b" ok\n");
+            if Memory::NODES < n {
+                return told;
+            }
+            let listed = put_entries(out, told, row, n);
+            put_rest(out, listed, row, n * Memory::ENTRY)
+        }
+        Verdict::Refused(refusal) => {
+            let told = output::put_refusal(out, named, refusal);
+            put_rest(out, told, row, 0)
+        }
+    }
+}
+
+// Prints the table's answer and entries, and whether the rest of the lent room is kept.
+pub fn table(
+    links: &[u16],
+    parents: &[u16],
+    search: Search,
+    row: &mut [u64],
+    room: usize,
+    out: &mut [u8],
+    at: usize,
+) -> usize {
+    if row.len() < room {
+        return at;
+    }
+    fill(row);
+    let said = table::table(links, parents, search, &mut row[0..room]);
+    put_table(said, parents.len(), &row[0..room], out, at)
+}
