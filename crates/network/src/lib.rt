@@ -181,29 +181,27 @@ pub fn bad_mark(mark: u16) -> bool
 fn first_bad_ends(links: &[u16], n: usize) -> Found
     ensures { λ r. ⌜ r ≡ firstTo (λ e. badEnds n (linkIn (now (links .entry)) e)) (linksIn (now (links .entry))) ⌝ }
 {
+    let mut found = Found::Nothing;
     let mut e = 0;
     while e < links.len() / Memory::LINK {
-        if bad_ends(n, link_at(links, e)) {
-            return Found::At(e);
-        }
+        found = rows::or_here(found, bad_ends(n, link_at(links, e)), e);
         e += 1;
     }
-    Found::Nothing
+    found
 }
 
 // The lowest link with a bad service mark.
 fn first_bad_mark(links: &[u16]) -> Found
     ensures { λ r. ⌜ r ≡ firstTo (λ e. badMark (linkIn (now (links .entry)) e .mark)) (linksIn (now (links .entry))) ⌝ }
 {
+    let mut found = Found::Nothing;
     let mut e = 0;
     while e < links.len() / Memory::LINK {
         let l = link_at(links, e);
-        if bad_mark(l.mark) {
-            return Found::At(e);
-        }
+        found = rows::or_here(found, bad_mark(l.mark), e);
         e += 1;
     }
-    Found::Nothing
+    found
 }
 
 // Refusal 5, of a row of links among n nodes.
@@ -250,14 +248,13 @@ fn bad_parent(links: &[u16], parents: &[u16], search: Search, u: usize) -> bool
 fn first_bad_parent(links: &[u16], parents: &[u16], search: Search) -> Found
     ensures { λ r. ⌜ r ≡ firstTo (badParent (netOf (now (links .entry)) (now (parents .entry)) search)) (length (now (parents .entry))) ⌝ }
 {
+    let mut found = Found::Nothing;
     let mut u = 0;
     while u < parents.len() {
-        if bad_parent(links, parents, search, u) {
-            return Found::At(u);
-        }
+        found = rows::or_here(found, bad_parent(links, parents, search, u), u);
         u += 1;
     }
-    Found::Nothing
+    found
 }
 
 // Refusal 7, of the row of parent links.

@@ -1,37 +1,43 @@
 -- The loop that looks for the first number that passes: what it keeps, and what it ends with. Every such loop cites this.
 -- Assumes nothing.
-use mathlib.Core.Path.{_≡_, refl, sym, ap, _∙_}
-use mathlib.Core.Bool.{Bool, true, false}
+use mathlib.Core.Path.{_≡_, refl, sym, subst, ap, _∙_}
+use mathlib.Core.Bool.{Bool, true, false, cond, _&&_}
 use Prim.Native.Nat.{ℕ, suc, _+_, _<_, _≤_}
-use native.Mathlib.Nat.{not-suc-le-zero}
 use native.Mathlib.Numerals.{add-one}
 use native.Mathlib.Omega.{arith}
 use Rattle.edition.specs.declared.Found.{Found}
 use Rattle.edition.specs.declared.Found.the-variants.{Nothing, At}
-use Rattle.rows.specs.First.{firstTo}
-use Rattle.rows.proofs.Tests.{lastly}
-use Rattle.rows.proofs.Best.{nowhere, here, first-is, first-unique}
+use Rattle.rows.specs.First.{beats, bestTo, firstTo, orHere}
 
--- none of the numbers below i passes
-pub record Seeking (p : ℕ → Bool) (k i : ℕ) : Type 0 where
+-- one more number: it is found where nothing lower was
+first-more : (p : ℕ → Bool) (k : ℕ) → orHere (firstTo p k) (p k) k ≡ firstTo p (suc k)
+unfolding firstTo bestTo orHere beats
+first-more p k = go (bestTo p (λ a b. false) k) (p k)
+  where
+    go : (f : Found) (b : Bool) → orHere f b k ≡ cond (b && beats (λ a b. false) k f) (At k) f
+    go Nothing true = refl
+    go Nothing false = refl
+    go (At j) true = refl
+    go (At j) false = refl
+
+-- what is found among the numbers below i
+pub record Seeking (p : ℕ → Bool) (k i : ℕ) (found : Found) : Type 0 where
   pub low : i ≤ k
-  pub none : (j : ℕ) → j < i → p j ≡ false
+  pub is : found ≡ firstTo p i
 
 module _ (p : ℕ → Bool) (k : ℕ) where
-  pub seek-start : Seeking p k 0
-  seek-start = record { low = omega arith; none = λ j l. absurd (not-suc-le-zero l) }
+  pub seek-start : Seeking p k 0 Nothing
+  unfolding firstTo bestTo
+  seek-start = record { low = omega arith; is = refl }
 
-  module _ (i : ℕ) (s : Seeking p k i) where
-    -- b is the test's answer at i
-    pub seek-more : i < k → (b : Bool) → b ≡ p i → b ≡ false → Seeking p k (i + 1)
-    seek-more l b q e =
+  module _ (i : ℕ) (f : Found) (s : Seeking p k i f) where
+    -- b is the test's answer at i, g what is found then
+    pub seek-more : i < k → (b : Bool) → b ≡ p i → (g : Found) → g ≡ orHere f b i → Seeking p k (i + 1) g
+    seek-more l b q g e =
         record {
           low = omega arith;
-          none = rw add-one (lastly (λ j. p j ≡ false) i (s .none) (sym q ∙ e));
+          is = rw add-one (e ∙ (ap (λ h. orHere h b i) (s .is) ∙ (ap (λ t. orHere (firstTo p i) t i) q ∙ first-more p i)));
         }
 
-    pub seek-found : i < k → (b : Bool) → b ≡ p i → b ≡ true → At i ≡ firstTo p k
-    seek-found l b q e = first-unique p k (here l (sym q ∙ e) (s .none)) (first-is p k)
-
-    pub seek-none : k ≤ i → Nothing ≡ firstTo p k
-    seek-none h = first-unique p k (nowhere (λ j l. s .none j (omega arith))) (first-is p k)
+    pub seek-done : k ≤ i → f ≡ firstTo p k
+    seek-done h = subst (λ j. f ≡ firstTo p j) (omega (arith, s .low)) (s .is)

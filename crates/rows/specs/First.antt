@@ -28,6 +28,11 @@ unfoldable pub foundOr : ℕ → Found → ℕ
 foundOr other Nothing = other
 foundOr other (At k) = k
 
+-- What is found, or else this place where the test passes.
+unfoldable pub orHere : Found → Bool → ℕ → Found
+orHere Nothing passes place = cond passes (At place) Nothing
+orHere (At lower) passes place = At lower
+
 -- Refused for this reason at what is found.
 unfoldable pub refusedAt : Why → Found → Verdict
 refusedAt why Nothing = Taken

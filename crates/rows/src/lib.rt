@@ -1,7 +1,7 @@
 // Numbers in lent rows: total reads, and what a search found as a verdict.
 ghost use mathlib.Core.Path.{_≡_};
 ghost use lib.ListN.{getD, set};
-ghost use Rattle.rows.specs.First.{refuseIf, refusedAt};
+ghost use Rattle.rows.specs.First.{orHere, refuseIf, refusedAt};
 use edition::Found;
 use edition::Refusal;
 use edition::Verdict;
@@ -29,6 +29,19 @@ pub fn refuse_if(bad: bool, why: Why, place: usize) -> Verdict
         return Verdict::Refused(Refusal { why, place });
     }
     Verdict::Taken
+}
+
+// What was found, or else this place where the test passes. Over rising places it finds the lowest that passes.
+pub fn or_here(found: Found, passes: bool, place: usize) -> Found
+    ensures { λ r. ⌜ r ≡ orHere found passes place ⌝ }
+{
+    if !passes {
+        return found;
+    }
+    match found {
+        Found::Nothing => Found::At(place),
+        Found::At(lower) => Found::At(lower),
+    }
 }
 
 // Refused for this reason at what was found.

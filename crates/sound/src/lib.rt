@@ -33,14 +33,13 @@ pub enum Checked {
 fn first_lost(links: &[u16], parents: &[u16], search: Search) -> Found
     ensures { λ r. ⌜ r ≡ firstTo (noRoute (netOf (now (links .entry)) (now (parents .entry)) search)) (length (now (parents .entry))) ⌝ }
 {
+    let mut found = Found::Nothing;
     let mut u = 0;
     while u < parents.len() {
-        if !tree::has_route(links, parents, search, u) {
-            return Found::At(u);
-        }
+        found = rows::or_here(found, !tree::has_route(links, parents, search, u), u);
         u += 1;
     }
-    Found::Nothing
+    found
 }
 
 // Refusal 8: a node has no route to the root.
@@ -76,14 +75,13 @@ fn breaks_by(row: &[u64], l: Link) -> bool
 fn first_breaking(links: &[u16], row: &[u64]) -> Found
     ensures { λ r. ⌜ r ≡ firstTo (λ e. breaksBy (now (row .entry)) (linkIn (now (links .entry)) e)) (linksIn (now (links .entry))) ⌝ }
 {
+    let mut found = Found::Nothing;
     let mut e = 0;
     while e < links.len() / Memory::LINK {
-        if breaks_by(row, network::link_at(links, e)) {
-            return Found::At(e);
-        }
+        found = rows::or_here(found, breaks_by(row, network::link_at(links, e)), e);
         e += 1;
     }
-    Found::Nothing
+    found
 }
 
 // Refusal 9, of a network whose ends are nodes: a link in service breaks shortness.

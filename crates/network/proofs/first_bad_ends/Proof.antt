@@ -1,18 +1,25 @@
 -- `network::first_bad_ends` meets its contract. Assumes nothing.
+use Rattle.rows.proofs.Seeking.{Seeking, seek-start, seek-more, seek-done}
+use mathlib.Core.Path.{_∙_, ap}
+use mathlib.Core.Bool.{not}
+use Prim.Native.Nat.{_-_}
+use lib.ListN.{length}
 use Rattle.network.specs.Records.{badEnds}
 use Rattle.network.specs.Network.{linkIn, linksIn}
-use Rattle.rows.proofs.Seeking.{Seeking, seek-start, seek-more, seek-found, seek-none}
-use mathlib.Core.Path.{_∙_, ap}
-use Prim.Native.Nat.{_-_}
 use borrow.Author.Needs.{needs}
 use Rattle.network.proofs.first_bad_ends.Statement.{statement}
 use Rattle.network.proofs.first_bad_ends.Tie as tie
+use Rattle.network.proofs.first_bad_ends.Reads as reads
+use Rattle.network.proofs.first_bad_ends.Lts as lts
+use Rattle.network.proofs.bad_ends.Reads as bad-ends-reads
+use Rattle.network.proofs.link_at.Reads as link-at-reads
+use Rattle.rows.proofs.or_here.Reads as or-here-reads
 
 abbrev Inv-loop : tie.InvT-loop
-Inv-loop links n e₀ e = Seeking (λ e. badEnds n (linkIn links e)) (linksIn links) e
+Inv-loop links n found₀ e₀ found e = Seeking (λ e. badEnds n (linkIn links e)) (linksIn links) e found
 
 abbrev μ-loop : tie.MeasureT-loop
-μ-loop links n e₀ e = (linksIn links) - e
+μ-loop links n found₀ e₀ found e = (linksIn links) - e
 
 loop-holds : tie.Need-loop-holds Inv-loop μ-loop
 loop-holds c = seek-start _ _
@@ -23,8 +30,8 @@ link-at-requires c κs = search needs
 bad-ends-requires : tie.Need-bad-ends-requires Inv-loop μ-loop
 bad-ends-requires c κs = search needs
 
-returns : tie.Need-returns Inv-loop μ-loop
-returns c = seek-found _ _ _ (c .before .before .before .before .loop .inv) (c .before .before .before .loop-test .taken) _ (c .before .bad-ends .ensures ∙ ap (badEnds _) (c .before .before .link-at .ensures)) (c .if1 .taken)
+or-here-requires : tie.Need-or-here-requires Inv-loop μ-loop
+or-here-requires c κs = search needs
 
 add-e : tie.Need-add-e Inv-loop μ-loop
 add-e c = search needs
@@ -33,10 +40,10 @@ loop-less : tie.Need-loop-less Inv-loop μ-loop
 loop-less c = search needs
 
 loop-again : tie.Need-loop-again Inv-loop μ-loop
-loop-again c = seek-more _ _ _ (c .before .before .before .before .loop .inv) (c .before .before .before .loop-test .taken) _ (c .before .bad-ends .ensures ∙ ap (badEnds _) (c .before .before .link-at .ensures)) (c .if1 .left)
+loop-again c = seek-more _ _ _ _ (c .before .before .before .before .loop .inv) (c .before .before .before .loop-test .taken) _ (c .before .bad-ends .ensures ∙ ap (badEnds _) (c .before .before .link-at .ensures)) _ (c .or-here .ensures)
 
-returns-2 : tie.Need-returns-2 Inv-loop μ-loop
-returns-2 c = seek-none _ _ _ (c .before .loop .inv) (c .loop-test .left)
+returns : tie.Need-returns Inv-loop μ-loop
+returns c = seek-done _ _ _ _ (c .before .loop .inv) (c .loop-test .left)
 
 pub first-bad-ends-spec : {M : Type 1} → statement M
 first-bad-ends-spec =
@@ -47,8 +54,8 @@ first-bad-ends-spec =
     loop-holds
     link-at-requires
     bad-ends-requires
-    returns
+    or-here-requires
     add-e
     loop-less
     loop-again
-    returns-2)
+    returns)

@@ -1,19 +1,26 @@
 -- `network::first_bad_mark` meets its contract. Assumes nothing.
-use Rattle.network.specs.declared.Link.{Link}
+use Rattle.rows.proofs.Seeking.{Seeking, seek-start, seek-more, seek-done}
+use mathlib.Core.Path.{_∙_, ap}
+use mathlib.Core.Bool.{not}
+use Prim.Native.Nat.{_-_}
+use lib.ListN.{length}
 use Rattle.network.specs.Records.{badMark}
 use Rattle.network.specs.Network.{linkIn, linksIn}
-use Rattle.rows.proofs.Seeking.{Seeking, seek-start, seek-more, seek-found, seek-none}
-use mathlib.Core.Path.{_∙_, ap}
-use Prim.Native.Nat.{_-_}
+use Rattle.network.specs.declared.Link.{Link}
 use borrow.Author.Needs.{needs}
 use Rattle.network.proofs.first_bad_mark.Statement.{statement}
 use Rattle.network.proofs.first_bad_mark.Tie as tie
+use Rattle.network.proofs.first_bad_mark.Reads as reads
+use Rattle.network.proofs.first_bad_mark.Lts as lts
+use Rattle.network.proofs.bad_mark.Reads as bad-mark-reads
+use Rattle.network.proofs.link_at.Reads as link-at-reads
+use Rattle.rows.proofs.or_here.Reads as or-here-reads
 
 abbrev Inv-loop : tie.InvT-loop
-Inv-loop links e₀ e = Seeking (λ e. badMark (linkIn links e .mark)) (linksIn links) e
+Inv-loop links found₀ e₀ found e = Seeking (λ e. badMark (linkIn links e .mark)) (linksIn links) e found
 
 abbrev μ-loop : tie.MeasureT-loop
-μ-loop links e₀ e = (linksIn links) - e
+μ-loop links found₀ e₀ found e = (linksIn links) - e
 
 loop-holds : tie.Need-loop-holds Inv-loop μ-loop
 loop-holds c = seek-start _ _
@@ -24,8 +31,8 @@ link-at-requires c κs = search needs
 bad-mark-requires : tie.Need-bad-mark-requires Inv-loop μ-loop
 bad-mark-requires c κs = search needs
 
-returns : tie.Need-returns Inv-loop μ-loop
-returns c = seek-found _ _ _ (c .before .before .before .before .loop .inv) (c .before .before .before .loop-test .taken) _ (c .before .bad-mark .ensures ∙ ap (λ (l : Link). badMark (l .mark)) (c .before .before .link-at .ensures)) (c .if1 .taken)
+or-here-requires : tie.Need-or-here-requires Inv-loop μ-loop
+or-here-requires c κs = search needs
 
 add-e : tie.Need-add-e Inv-loop μ-loop
 add-e c = search needs
@@ -34,10 +41,10 @@ loop-less : tie.Need-loop-less Inv-loop μ-loop
 loop-less c = search needs
 
 loop-again : tie.Need-loop-again Inv-loop μ-loop
-loop-again c = seek-more _ _ _ (c .before .before .before .before .loop .inv) (c .before .before .before .loop-test .taken) _ (c .before .bad-mark .ensures ∙ ap (λ (l : Link). badMark (l .mark)) (c .before .before .link-at .ensures)) (c .if1 .left)
+loop-again c = seek-more _ _ _ _ (c .before .before .before .before .loop .inv) (c .before .before .before .loop-test .taken) _ (c .before .bad-mark .ensures ∙ ap (λ (l : Link). badMark (l .mark)) (c .before .before .link-at .ensures)) _ (c .or-here .ensures)
 
-returns-2 : tie.Need-returns-2 Inv-loop μ-loop
-returns-2 c = seek-none _ _ _ (c .before .loop .inv) (c .loop-test .left)
+returns : tie.Need-returns Inv-loop μ-loop
+returns c = seek-done _ _ _ _ (c .before .loop .inv) (c .loop-test .left)
 
 pub first-bad-mark-spec : {M : Type 1} → statement M
 first-bad-mark-spec =
@@ -48,8 +55,8 @@ first-bad-mark-spec =
     loop-holds
     link-at-requires
     bad-mark-requires
-    returns
+    or-here-requires
     add-e
     loop-less
     loop-again
-    returns-2)
+    returns)

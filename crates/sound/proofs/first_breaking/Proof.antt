@@ -1,18 +1,25 @@
 -- `sound::first_breaking` meets its contract. Assumes nothing.
-use Rattle.network.specs.Network.{linkIn, linksIn}
-use Rattle.sound.specs.Work.{breaksBy}
-use Rattle.rows.proofs.Seeking.{Seeking, seek-start, seek-more, seek-found, seek-none}
+use Rattle.rows.proofs.Seeking.{Seeking, seek-start, seek-more, seek-done}
 use mathlib.Core.Path.{_∙_, ap}
+use mathlib.Core.Bool.{not}
 use Prim.Native.Nat.{_-_}
+use lib.ListN.{length}
+use Rattle.sound.specs.Work.{breaksBy}
+use Rattle.network.specs.Network.{linkIn, linksIn}
 use borrow.Author.Needs.{needs}
 use Rattle.sound.proofs.first_breaking.Statement.{statement}
 use Rattle.sound.proofs.first_breaking.Tie as tie
+use Rattle.sound.proofs.first_breaking.Reads as reads
+use Rattle.sound.proofs.first_breaking.Lts as lts
+use Rattle.network.proofs.link_at.Reads as link-at-reads
+use Rattle.rows.proofs.or_here.Reads as or-here-reads
+use Rattle.sound.proofs.breaks_by.Reads as breaks-by-reads
 
 abbrev Inv-loop : tie.InvT-loop
-Inv-loop links row e₀ e = Seeking (λ e. breaksBy row (linkIn links e)) (linksIn links) e
+Inv-loop links row found₀ e₀ found e = Seeking (λ e. breaksBy row (linkIn links e)) (linksIn links) e found
 
 abbrev μ-loop : tie.MeasureT-loop
-μ-loop links row e₀ e = linksIn links - e
+μ-loop links row found₀ e₀ found e = (linksIn links) - e
 
 loop-holds : tie.Need-loop-holds Inv-loop μ-loop
 loop-holds c = seek-start _ _
@@ -23,8 +30,8 @@ link-at-requires c κs = search needs
 breaks-by-requires : tie.Need-breaks-by-requires Inv-loop μ-loop
 breaks-by-requires c κs = search needs
 
-returns : tie.Need-returns Inv-loop μ-loop
-returns c = seek-found _ _ _ (c .before .before .before .before .loop .inv) (c .before .before .before .loop-test .taken) _ (c .before .breaks-by .ensures ∙ ap (breaksBy _) (c .before .before .link-at .ensures)) (c .if1 .taken)
+or-here-requires : tie.Need-or-here-requires Inv-loop μ-loop
+or-here-requires c κs = search needs
 
 add-e : tie.Need-add-e Inv-loop μ-loop
 add-e c = search needs
@@ -33,10 +40,10 @@ loop-less : tie.Need-loop-less Inv-loop μ-loop
 loop-less c = search needs
 
 loop-again : tie.Need-loop-again Inv-loop μ-loop
-loop-again c = seek-more _ _ _ (c .before .before .before .before .loop .inv) (c .before .before .before .loop-test .taken) _ (c .before .breaks-by .ensures ∙ ap (breaksBy _) (c .before .before .link-at .ensures)) (c .if1 .left)
+loop-again c = seek-more _ _ _ _ (c .before .before .before .before .loop .inv) (c .before .before .before .loop-test .taken) _ (c .before .breaks-by .ensures ∙ ap (breaksBy _) (c .before .before .link-at .ensures)) _ (c .or-here .ensures)
 
-returns-2 : tie.Need-returns-2 Inv-loop μ-loop
-returns-2 c = seek-none _ _ _ (c .before .loop .inv) (c .loop-test .left)
+returns : tie.Need-returns Inv-loop μ-loop
+returns c = seek-done _ _ _ _ (c .before .loop .inv) (c .loop-test .left)
 
 pub first-breaking-spec : {M : Type 1} → statement M
 first-breaking-spec =
@@ -47,8 +54,8 @@ first-breaking-spec =
     loop-holds
     link-at-requires
     breaks-by-requires
-    returns
+    or-here-requires
     add-e
     loop-less
     loop-again
-    returns-2)
+    returns)

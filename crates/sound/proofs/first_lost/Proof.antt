@@ -1,20 +1,24 @@
 -- `sound::first_lost` meets its contract. Assumes nothing.
+use Rattle.rows.proofs.Seeking.{Seeking, seek-start, seek-more, seek-done}
+use mathlib.Core.Path.{_∙_, ap}
 use mathlib.Core.Bool.{not}
-use lib.ListN.{length}
-use Rattle.network.specs.Network.{netOf}
-use Rattle.sound.specs.Sound.{noRoute}
-use Rattle.rows.proofs.Seeking.{Seeking, seek-start, seek-more, seek-found, seek-none}
-use mathlib.Core.Path.{ap}
 use Prim.Native.Nat.{_-_}
+use lib.ListN.{length}
+use Rattle.sound.specs.Sound.{noRoute}
+use Rattle.network.specs.Network.{netOf}
 use borrow.Author.Needs.{needs}
 use Rattle.sound.proofs.first_lost.Statement.{statement}
 use Rattle.sound.proofs.first_lost.Tie as tie
+use Rattle.sound.proofs.first_lost.Reads as reads
+use Rattle.sound.proofs.first_lost.Lts as lts
+use Rattle.rows.proofs.or_here.Reads as or-here-reads
+use Rattle.tree.proofs.has_route.Reads as has-route-reads
 
 abbrev Inv-loop : tie.InvT-loop
-Inv-loop links parents search u₀ u = Seeking (noRoute (netOf links parents search)) (length parents) u
+Inv-loop links parents search found₀ u₀ found u = Seeking (noRoute (netOf links parents search)) (length parents) u found
 
 abbrev μ-loop : tie.MeasureT-loop
-μ-loop links parents search u₀ u = length parents - u
+μ-loop links parents search found₀ u₀ found u = (length parents) - u
 
 loop-holds : tie.Need-loop-holds Inv-loop μ-loop
 loop-holds c = seek-start _ _
@@ -22,9 +26,8 @@ loop-holds c = seek-start _ _
 has-route-requires : tie.Need-has-route-requires Inv-loop μ-loop
 has-route-requires c κs = search needs
 
-returns : tie.Need-returns Inv-loop μ-loop
-unfolding noRoute
-returns c = seek-found _ _ _ (c .before .before .before .loop .inv) (c .before .before .loop-test .taken) _ (ap not (c .before .has-route .ensures)) (c .if1 .taken)
+or-here-requires : tie.Need-or-here-requires Inv-loop μ-loop
+or-here-requires c κs = search needs
 
 add-u : tie.Need-add-u Inv-loop μ-loop
 add-u c = search needs
@@ -34,10 +37,10 @@ loop-less c = search needs
 
 loop-again : tie.Need-loop-again Inv-loop μ-loop
 unfolding noRoute
-loop-again c = seek-more _ _ _ (c .before .before .before .loop .inv) (c .before .before .loop-test .taken) _ (ap not (c .before .has-route .ensures)) (c .if1 .left)
+loop-again c = seek-more _ _ _ _ (c .before .before .before .loop .inv) (c .before .before .loop-test .taken) _ (ap not (c .before .has-route .ensures)) _ (c .or-here .ensures)
 
-returns-2 : tie.Need-returns-2 Inv-loop μ-loop
-returns-2 c = seek-none _ _ _ (c .before .loop .inv) (c .loop-test .left)
+returns : tie.Need-returns Inv-loop μ-loop
+returns c = seek-done _ _ _ _ (c .before .loop .inv) (c .loop-test .left)
 
 pub first-lost-spec : {M : Type 1} → statement M
 first-lost-spec =
@@ -47,8 +50,8 @@ first-lost-spec =
     μ-loop
     loop-holds
     has-route-requires
-    returns
+    or-here-requires
     add-u
     loop-less
     loop-again
-    returns-2)
+    returns)
