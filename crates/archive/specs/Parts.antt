@@ -1,5 +1,5 @@
 -- The parts of a file of n nodes and m links: which block holds which records. Assumes nothing.
-use mathlib.Core.Bool.{Bool, cond}
+use mathlib.Core.Bool.{cond}
 use Prim.Native.Nat.{ℕ, _+_, _*_, _-_, _/_, _%_, min}
 use lib.Dec.{eqb, leb}
 use Rattle.edition.specs.Stored.{blockBytes, frontBytes, headerKind, linksKind, tableKind, linkBytes, entryBytes, headersABlock, linksABlock, entriesABlock}

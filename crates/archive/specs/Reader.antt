@@ -1,7 +1,7 @@
 -- What a file says, and what the reader refuses it for. Assumes nothing.
 use mathlib.Core.Bool.{Bool, not, _||_}
 use mathlib.Core.List.{List, [], _∷_, _++_}
-use Prim.Native.Nat.{ℕ, _+_, _*_, _-_, _/_, _%_}
+use Prim.Native.Nat.{ℕ, _+_, _*_, _%_}
 use lib.Dec.{eqb, ltb}
 use lib.ListN.{length, take, drop}
 use Rattle.edition.specs.declared.Search.{Search}
@@ -20,7 +20,7 @@ use Rattle.swap.specs.Entry.{entry}
 use Rattle.table.specs.Table.{table, entriesIn}
 use Rattle.block.specs.Bytes.{numberIn}
 use Rattle.block.specs.Block.{blockVerdict}
-use Rattle.archive.specs.Parts.{Part, blockCount, partAt, linkPlace, entryPlace}
+use Rattle.archive.specs.Parts.{blockCount, partAt, linkPlace, entryPlace}
 use Rattle.archive.specs.Writer.{entryRecord}
 
 -- The header's numbers: n, m, root, depth.

@@ -1,11 +1,9 @@
 -- The one file of a network and depth, and what the writer answers. Assumes nothing.
-use mathlib.Core.Bool.{Bool, cond}
+use mathlib.Core.Bool.{cond}
 use mathlib.Core.List.{List, [], _∷_, _++_}
 use Prim.Native.Nat.{ℕ, _+_, _*_}
 use lib.Dec.{eqb, ltb}
 use lib.ListN.{length, drop}
-use Rattle.edition.specs.declared.Search.{Search}
-use Rattle.edition.specs.declared.Swap.{Swap}
 use Rattle.edition.specs.declared.Entry.{Entry}
 use Rattle.edition.specs.declared.Verdict.{Verdict}
 use Rattle.edition.specs.declared.Why.the-variants.{NoRoom}
@@ -19,7 +17,7 @@ use Rattle.sound.specs.Sound.{netVerdict}
 use Rattle.swap.specs.Entry.{entry}
 use Rattle.block.specs.Bytes.{bytesOf}
 use Rattle.block.specs.Block.{block}
-use Rattle.archive.specs.Parts.{Part, blockCount, partAt}
+use Rattle.archive.specs.Parts.{blockCount, partAt}
 
 -- Header: n, m, root, depth, 2 bytes each.
 unfoldable pub headerRecord : Net → List ℕ

@@ -1,6 +1,6 @@
 -- The numbers of document 01 that memory holds itself to, and its marks. The stored form has its own (Stored).
 -- Assumes nothing.
-use Prim.Native.Nat.{ℕ, _+_, _*_, _-_}
+use Prim.Native.Nat.{ℕ, _*_, _-_}
 use Rattle.edition.specs.declared.Limits.{Limits}
 
 -- 65,535 where a link is named and there is none.

@@ -4,7 +4,7 @@ use mathlib.Core.Bool.{true}
 use mathlib.Core.List.{List, [], _∷_}
 use Rattle.rows.proofs.Tests.{and-left, and-right}
 use Rattle.rows.proofs.Listed.{same-equal}
-use Rattle.harbour.specs.Harbour.{Case, _gives_}
+use Rattle.harbour.specs.Harbour.{Case, _gives_, links, parents, at, harbour, alone, rootEntry, bridge, one, two, three, right, wrong, nine, linksSeven, linksNine, twoSeven, oneNine, twoNine, said, room, after, answer, cases, holds}
 use Rattle.edition.specs.Refusals.{numberOf}
 use Rattle.edition.specs.Entries.{entryRow}
 use Rattle.rows.specs.Count.{sumTo, maxTo, someTo, rowsTo, onlyIf, rowWith}
@@ -19,7 +19,6 @@ use Rattle.swap.specs.Entry.{crossed, saved, stateBelow, state, priced, swapOf,
 use Rattle.table.specs.Table.{table, standing, tableVerdict, tableRow, marked, freshAt, freshRow}
 use Rattle.table.specs.Map.{unprotected, word, mapOf, ones, lowest, mapVerdict, mapRow}
 use Rattle.change.specs.Change.{isParent, breaks, changeVerdict, setLink, mendedAt, mended, changed}
-use Rattle.harbour.specs.Harbour.{links, parents, at, harbour, alone, rootEntry, bridge, one, two, three, right, wrong, nine, linksSeven, linksNine, twoSeven, oneNine, twoNine, said, room, after, answer, cases, holds}
 
 pub harbour-cases : holds cases ≡ true
 unfolding numberOf entryRow sumTo maxTo someTo rowsTo onlyIf rowWith beats bestTo firstTo foundOr refusedAt refuseAt refuseIf firstly has upTo firstOf total same fieldIn linkIn netOf inService touches otherEnd badNodes badLinks badRoot badDepth sizeVerdict badEnds badMark unfit badParent treeOf climb route arrives hasRoute dist under hops wayUp meet apart onPath noRoute keepsShort short notShort recordVerdict netVerdict checked lower upper crosses within candidate newDist inside cost costOf offer better before bestSwap crossed saved stateBelow state priced swapOf entry table standing tableVerdict tableRow marked freshAt freshRow unprotected word mapOf ones lowest mapVerdict mapRow isParent breaks changeVerdict setLink mendedAt mended changed links parents at harbour alone rootEntry bridge one two three right wrong nine linksSeven linksNine twoSeven oneNine twoNine said room after answer cases holds

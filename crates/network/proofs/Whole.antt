@@ -1,6 +1,6 @@
 -- Only whole records count: rows that agree on those make one network, so everything said of a network is the same for both.
 -- A row of 16-bit numbers has no length over 65,535. Assumes nothing.
-use mathlib.Core.Path.{_≡_, refl, sym, ap, _∙_}
+use mathlib.Core.Path.{_≡_, refl, ap}
 use mathlib.Core.Bool.{Bool, true, false}
 use mathlib.Core.List.{List}
 use Prim.Native.Nat.{ℕ, _+_, _*_, _<_, _≤_}
@@ -12,7 +12,6 @@ use Rattle.edition.specs.declared.Search.{Search}
 use Rattle.edition.specs.Limits.{noLink, linkWidth, longest}
 use Rattle.rows.specs.Count.{onlyIf}
 use Rattle.rows.proofs.Counting.{only-small}
-use Rattle.network.specs.declared.Link.{Link}
 use Rattle.network.specs.Network.{Net, linksIn, fieldIn, linkIn, netOf}
 
 -- two rows of links with as many whole records, and the same numbers in them

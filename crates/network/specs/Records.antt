@@ -1,16 +1,16 @@
 -- Refusals 1 to 7: the sizes, and what a link's or a node's own record is refused for. Assumes nothing.
 use mathlib.Core.Bool.{Bool, cond, not, _&&_, _||_}
-use mathlib.Core.List.{List, [], _∷_}
+use mathlib.Core.List.{[], _∷_}
 use Prim.Native.Nat.{ℕ}
 use lib.Dec.{eqb, leb, ltb}
 use Rattle.edition.specs.declared.Limits.{Limits}
 use Rattle.edition.specs.declared.Search.{Search}
 use Rattle.edition.specs.declared.Verdict.{Verdict}
-use Rattle.edition.specs.declared.Why.the-variants.{NodeCount, LinkCount, BadRoot, BadDepth, BadEnds, BadMark, BadParent}
+use Rattle.edition.specs.declared.Why.the-variants.{NodeCount, LinkCount, BadRoot, BadDepth}
 use Rattle.edition.specs.Limits.{noLink, wholeSearch, served, withdrawn}
-use Rattle.rows.specs.First.{refuseIf, refuseAt, firstly}
+use Rattle.rows.specs.First.{refuseIf, firstly}
 use Rattle.network.specs.declared.Link.{Link}
-use Rattle.network.specs.Network.{Net, inService, touches, otherEnd}
+use Rattle.network.specs.Network.{Net, inService, touches}
 
 -- 1: n is 0 or over the limit.
 unfoldable pub badNodes : Limits → ℕ → Bool

@@ -1,2 +1,4 @@
+pub mod Behind
 pub mod Copying
+pub mod Keeping
 pub mod Placing

@@ -5,6 +5,8 @@ use Prim.Native.Nat.{ℕ, _+_, _*_}
 use lib.ListN.{getD}
 use Rattle.rows.specs.Count.{rowWith}
 use Rattle.probe.specs.declared.input.Head.{Head}
+use Rattle.probe.specs.declared.input.Heading.{Heading}
+use Rattle.probe.specs.declared.input.Heading.the-variants.{Is, End}
 
 -- Word i of bytes, the high byte first.
 unfoldable pub wordIn : List ℕ → ℕ → ℕ
@@ -27,6 +29,11 @@ headIn raw =
       b = wordIn raw 9;
       c = wordIn raw 10;
     }
+
+-- What a head is read to be: the head that the bytes are, or the end of the input.
+pub data HeadRead (raw : List ℕ) : Heading → Type 0 where
+  is-head : HeadRead raw (Is (headIn raw))
+  is-end : HeadRead raw End
 
 -- A row after n words were asked for: with the words of the bytes at its beginning where they came, as it was where not.
 unfoldable pub rowRead : Bool → List ℕ → ℕ → List ℕ → List ℕ

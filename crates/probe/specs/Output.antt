@@ -1,10 +1,11 @@
 -- What waits in the buffer by way of which text is printed. Assumes nothing.
 use mathlib.Core.Path.{_≡_}
-use mathlib.Core.Bool.{cond}
+use mathlib.Core.Bool.{Bool, true, false, cond, not, _&&_}
 use mathlib.Core.List.{List, [], _∷_, _++_}
 use Prim.Native.Nat.{ℕ, _+_, _-_, _/_, _%_, _≤_}
-use lib.Dec.{leb}
-use lib.ListN.{length, take}
+use lib.Dec.{eqb, leb}
+use lib.ListN.{length, getD, take}
+use Rattle.rows.specs.Count.{someTo}
 use Rattle.io.specs.Digits.{glyph, digits, Fewest}
 
 -- Where n bytes go in a buffer of this size: behind what waits, or to the beginning where there is no room for them. What
@@ -23,6 +24,19 @@ waits out at text =
 pub record Holds (out : List ℕ) (at : ℕ) (text : List ℕ) : Type 0 where
   pub room : at ≤ length out
   pub is : take at out ≡ text
+
+-- The number that lent room is filled with.
+abbrev pub fillMark : ℕ
+fillMark = 7
+
+-- Is all of a row from a place on as it was filled?
+unfoldable pub isKept : List ℕ → ℕ → Bool
+isKept row from = not (someTo (λ i. leb from i && not (eqb (getD row i 0) fillMark)) (length row))
+
+-- `rest kept` or `rest changed`, and the end of the line.
+unfoldable pub restText : Bool → List ℕ
+restText true = 114 ∷ 101 ∷ 115 ∷ 116 ∷ 32 ∷ 107 ∷ 101 ∷ 112 ∷ 116 ∷ 10 ∷ []
+restText false = 114 ∷ 101 ∷ 115 ∷ 116 ∷ 32 ∷ 99 ∷ 104 ∷ 97 ∷ 110 ∷ 103 ∷ 101 ∷ 100 ∷ 10 ∷ []
 
 -- A byte in hexadecimal: two digits, in lower case.
 unfoldable pub hexOf : ℕ → List ℕ

@@ -1,9 +1,10 @@
 // What is read: the heads of cases, and the words and bytes behind them.
 ghost use mathlib.Core.Path.{_≡_};
 ghost use Prim.Native.Nat.{_+_, _*_, _≤_, _<_};
-ghost use lib.ListN.{length, take};
+ghost use lib.ListN.{length, take, drop};
 ghost use Rattle.rows.specs.Count.{rowWith};
-ghost use Rattle.probe.specs.Input.{wordIn, longIn, headIn, rowRead};
+ghost use Rattle.probe.specs.Input.{wordIn, longIn, headIn, HeadRead, rowRead};
+ghost use Rattle.probe.specs.Limits.{mostRest, overRows, isOver};
 use crate::limits::BYTES;
 use crate::limits::HEAD;
 use crate::limits::LINKS;
@@ -52,7 +53,8 @@ fn long(raw: &[u8], i: usize) -> usize
 }
 
 // The head that these bytes are.
-fn head_of(raw: &[u8; 2 * HEAD]) -> Head
+fn head_of(raw: &[u8]) -> Head
+    requires { ⌜ 22 ≤ length (now raw) ⌝ }
     ensures { λ r. ⌜ r ≡ headIn (now (raw .entry)) ⌝ }
 {
     let search = Search {
@@ -71,17 +73,31 @@ fn head_of(raw: &[u8; 2 * HEAD]) -> Head
     }
 }
 
-// Reads the head of the next case.
-pub fn read_head() -> Heading {
-    let mut raw = [0u8; 2 * HEAD];
-    if io::read_full(libc::STDIN_FILENO, &mut raw) < 2 * HEAD {
+// Reads n bytes to the beginning of the row. False where the input ends first or the row is too short.
+fn read_bytes(raw: &mut [u8], n: usize) -> bool {
+    if raw.len() < n {
+        return false;
+    }
+    io::read_full(libc::STDIN_FILENO, &mut raw[0..n]) == n
+}
+
+// Reads the head of the next case, by way of raw bytes.
+pub fn read_head(raw: &mut [u8]) -> Heading
+    ensures { λ r. ⌜ HeadRead (now (raw .exit)) r ⌝ }
+{
+    if raw.len() < 2 * HEAD {
         return Heading::End;
     }
-    Heading::Is(head_of(&raw))
+    if !read_bytes(raw, 2 * HEAD) {
+        return Heading::End;
+    }
+    Heading::Is(head_of(raw))
 }
 
 // Whether one of the three rows that op 7 lends is over its limit.
-fn is_over_rows(head: Head) -> bool {
+fn is_over_rows(head: Head) -> bool
+    ensures { λ r. ⌜ r ≡ overRows head ⌝ }
+{
     if LINKS < head.a as usize {
         return true;
     }
@@ -91,25 +107,30 @@ fn is_over_rows(head: Head) -> bool {
     ROOM < head.c as usize
 }
 
+// The most that may follow the parents.
+fn most_rest(op: u16) -> usize
+    ensures { λ r. ⌜ r ≡ mostRest op ⌝ }
+{
+    if ops::takes_bytes(op) { BYTES } else { LINKS }
+}
+
 // Whether the head is over a limit. Those on parents, links or bytes and room hold for every op, also where they are unused.
-pub fn is_over(head: Head) -> bool {
+pub fn is_over(head: Head) -> bool
+    ensures { λ r. ⌜ r ≡ isOver head ⌝ }
+{
     if PARENTS < head.parents {
         return true;
     }
     if ROOM < head.room {
         return true;
     }
-    if ops::takes_bytes(head.op) {
-        if BYTES < head.rest {
-            return true;
-        }
-    } else if LINKS < head.rest {
+    if most_rest(head.op) < head.rest {
         return true;
     }
-    if head.op == ops::READ {
-        return is_over_rows(head);
+    if head.op != ops::READ {
+        return false;
     }
-    false
+    is_over_rows(head)
 }
 
 // Puts the first n words of the bytes at the beginning of the row.
@@ -122,14 +143,6 @@ fn decode(raw: &[u8], row: &mut [u16], n: usize)
         row[i] = word(raw, i);
         i += 1;
     }
-}
-
-// Reads n bytes to the beginning of the row. False where the input ends first or the row is too short.
-fn read_bytes(raw: &mut [u8], n: usize) -> bool {
-    if raw.len() < n {
-        return false;
-    }
-    io::read_full(libc::STDIN_FILENO, &mut raw[0..n]) == n
 }
 
 // Reads n words to the beginning of the row, by way of raw bytes. False, with the row as it was, where the input ends first
@@ -151,7 +164,10 @@ fn read_words(raw: &mut [u8], row: &mut [u16], n: usize) -> bool
 }
 
 // Reads what follows the head: the parents, then the link numbers or the bytes. False where the input ends first.
-pub fn read_rows(head: Head, links: &mut [u16], parents: &mut [u16], bytes: &mut [u8]) -> bool {
+// What lies behind them in the two rows stays.
+pub fn read_rows(head: Head, links: &mut [u16], parents: &mut [u16], bytes: &mut [u8]) -> bool
+    ensures { λ r. ⌜ (drop (head .parents) (now (parents .exit)) ≡ drop (head .parents) (now (parents .entry))) × (drop (head .rest) (now (links .exit)) ≡ drop (head .rest) (now (links .entry))) ⌝ }
+{
     if !read_words(bytes, parents, head.parents) {
         return false;
     }

@@ -32,7 +32,7 @@ fn next_case(
     out: &mut [u8],
     at: usize,
 ) -> Next {
-    let heading = input::read_head();
+    let heading = input::read_head(bytes);
     let Heading::Is(head) = heading else {
         return Next::Over(at);
     };

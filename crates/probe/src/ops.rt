@@ -1,8 +1,13 @@
 // The table of ops. An op is one function over rows and numbers of the head, and answers how much waits to be printed. It is
-// added by its name in `is_op` and its call in `answer`.
+// added by the last op of `is_op` and its call in `answer`.
+ghost use mathlib.Core.Path.{_≡_};
+ghost use Prim.Native.Nat.{_≤_};
+ghost use lib.ListN.{length};
+ghost use Rattle.probe.specs.Limits.{isOp, takesBytes};
 use crate::checking;
 use crate::input;
 use crate::input::Head;
+use crate::output;
 use crate::tables;
 
 pub const CHECK: u16 = 1;
@@ -22,15 +27,19 @@ pub const READ: u16 = 7;
 pub const PAYLOAD: u16 = 8;
 
 // Whether the op is in the probe's table.
-pub fn is_op(op: u16) -> bool {
-    if op == TABLE {
-        return true;
+pub fn is_op(op: u16) -> bool
+    ensures { λ r. ⌜ r ≡ isOp op ⌝ }
+{
+    if op < CHECK {
+        return false;
     }
-    op == CHECK
+    op <= TABLE
 }
 
 // Whether bytes follow the parents, not link numbers.
-pub fn takes_bytes(op: u16) -> bool {
+pub fn takes_bytes(op: u16) -> bool
+    ensures { λ r. ⌜ r ≡ takesBytes op ⌝ }
+{
     if op == READ {
         return true;
     }
@@ -48,7 +57,9 @@ pub fn answer(
     file: &mut [u8],
     out: &mut [u8],
     at: usize,
-) -> usize {
+) -> usize
+    ensures { λ r. ⌜ r ≤ length (now (out .exit)) ⌝ }
+{
     let op = head.op;
     if op == CHECK {
         return checking::check(
@@ -70,5 +81,5 @@ pub fn answer(
             at,
         );
     }
-    at
+    output::flush(out, at)
 }

@@ -105,7 +105,9 @@ pub fn put_hex(out: &mut [u8], at: usize, byte: u8) -> usize
 }
 
 // Prints ` refused N P` and ends the line: what follows the name of a call that is refused.
-pub fn put_refusal(out: &mut [u8], at: usize, refusal: Refusal) -> usize {
+pub fn put_refusal(out: &mut [u8], at: usize, refusal: Refusal) -> usize
+    ensures { λ r. ⌜ r ≤ length (now (out .exit)) ⌝ }
+{
     let why = refusal.why;
     let named = put(out, at, b" refused ");
     let numbered = put_number(out, named, edition::number(why) as u64);

@@ -1,7 +1,10 @@
 // Op 2: the table.
+ghost use mathlib.Core.Path.{_≡_};
 ghost use Prim.Native.Nat.{_≤_};
 ghost use lib.ListN.{length};
 ghost use Rattle.edition.specs.Limits.{nodeLimit};
+ghost use Rattle.rows.specs.Count.{rowWith};
+ghost use Rattle.probe.specs.Output.{fillMark, isKept, restText, waits, Holds};
 use crate::output;
 use edition::Memory;
 use edition::Search;
@@ -11,7 +14,9 @@ use edition::Verdict;
 const FILL: u64 = 7;
 
 // Fills a row.
-pub fn fill(row: &mut [u64]) {
+pub fn fill(row: &mut [u64])
+    ensures { λ _. ⌜ now (row .exit) ≡ rowWith (λ i. fillMark) (length (now (row .entry))) (now (row .entry)) ⌝ }
+{
     let mut i = 0;
     while i < row.len() {
         row[i] = FILL;
@@ -20,7 +25,9 @@ pub fn fill(row: &mut [u64]) {
 }
 
 // Whether all of a row from a place on is as it was filled.
-fn is_kept(row: &[u64], from: usize) -> bool {
+fn is_kept(row: &[u64], from: usize) -> bool
+    ensures { λ r. ⌜ r ≡ isKept (now (row .entry)) from ⌝ }
+{
     let mut i = from;
     while i < row.len() {
         if row[i] != FILL {
@@ -32,7 +39,9 @@ fn is_kept(row: &[u64], from: usize) -> bool {
 }
 
 // Prints `rest kept` or `rest changed` for a row from a place on.
-pub fn put_rest(out: &mut [u8], at: usize, row: &[u64], from: usize) -> usize {
+pub fn put_rest(out: &mut [u8], at: usize, row: &[u64], from: usize) -> usize
+    ensures { λ r. ⌜ Holds (now (out .exit)) r (waits (now (out .entry)) at (restText (isKept (now (row .entry)) from))) ⌝ }
+{
     if is_kept(row, from) {
         return output::put(out, at, b"rest kept\n");
     }
@@ -42,6 +51,7 @@ pub fn put_rest(out: &mut [u8], at: usize, row: &[u64], from: usize) -> usize {
 // Prints the entry line of node u.
 fn put_entry(out: &mut [u8], at: usize, row: &[u64], u: usize) -> usize
     requires { ⌜ u ≤ nodeLimit ⌝ }
+    ensures { λ r. ⌜ r ≤ length (now (out .exit)) ⌝ }
 {
     let mut waits = output::put_number(out, at, u as u64);
     let mut i = 0;
@@ -55,7 +65,8 @@ fn put_entry(out: &mut [u8], at: usize, row: &[u64], u: usize) -> usize
 
 // Prints the entry lines of the first n nodes.
 fn put_entries(out: &mut [u8], at: usize, row: &[u64], n: usize) -> usize
-    requires { ⌜ n ≤ nodeLimit ⌝ }
+    requires { ⌜ (n ≤ nodeLimit) × (at ≤ length (now out)) ⌝ }
+    ensures { λ r. ⌜ r ≤ length (now (out .exit)) ⌝ }
 {
     let mut waits = at;
     let mut u = 0;
@@ -67,7 +78,9 @@ fn put_entries(out: &mut [u8], at: usize, row: &[u64], n: usize) -> usize
 }
 
 // Prints what a call for a table answered, and what it left in the row.
-fn put_table(said: Verdict, n: usize, row: &[u64], out: &mut [u8], at: usize) -> usize {
+fn put_table(said: Verdict, n: usize, row: &[u64], out: &mut [u8], at: usize) -> usize
+    ensures { λ r. ⌜ r ≤ length (now (out .exit)) ⌝ }
+{
     let named = output::put(out, at, b"table");
     match said {
         Verdict::Taken => {
@@ -94,9 +107,11 @@ pub fn table(
     room: usize,
     out: &mut [u8],
     at: usize,
-) -> usize {
+) -> usize
+    ensures { λ r. ⌜ r ≤ length (now (out .exit)) ⌝ }
+{
     if row.len() < room {
-        return at;
+        return output::flush(out, at);
     }
     fill(row);
     let said = table::table(links, parents, search, &mut row[0..room]);

@@ -1,17 +1,17 @@
 -- `bestTo` finds the number that comes before all others that may stand, the lowest of those that nothing tells apart; there
 -- is only one such. `firstTo` finds the lowest that passes. Assumes nothing.
-use mathlib.Core.Path.{_≡_, refl, sym, subst, ap, _∙_}
-use mathlib.Core.Bool.{Bool, true, false, cond, not, _&&_, _||_}
-use Prim.Native.Nat.{ℕ, zero, suc, _+_, _<_, _≤_}
+use mathlib.Core.Path.{_≡_, refl, ap}
+use mathlib.Core.Bool.{Bool, true, false, cond, _&&_, _||_}
+use Prim.Native.Nat.{ℕ, zero, suc, _<_}
 use native.Mathlib.Nat.{not-suc-le-zero}
 use native.Mathlib.Omega.{arith}
-use lib.Dec.{eqb, ltb}
+use lib.Dec.{ltb}
 use borrow.Author.Tests.{ltb-true, ltb-false, le-ltb}
 use Rattle.edition.specs.declared.Found.{Found}
 use Rattle.edition.specs.declared.Found.the-variants.{Nothing, At}
 use Rattle.rows.specs.Count.{someTo}
 use Rattle.rows.specs.First.{beats, bestTo, firstTo}
-use Rattle.rows.proofs.Tests.{clash, lastly, or-false, or-right, and-left}
+use Rattle.rows.proofs.Tests.{clash, lastly, or-false, and-left}
 
 -- b, below k, may stand; nothing that may stand comes before it, and it comes before each lower one that may stand
 pub record IsBest (may : ℕ → Bool) (before : ℕ → ℕ → Bool) (k b : ℕ) : Type 0 where

@@ -1,6 +1,6 @@
 -- Sums and largest values: bounds, and sums and maxima of equal values. Assumes nothing.
 use mathlib.Core.Path.{_≡_, refl, sym, ap, ap₂, _∙_}
-use mathlib.Core.Bool.{Bool, true, false, cond}
+use mathlib.Core.Bool.{Bool, true, false}
 use Prim.Native.Nat.{ℕ, zero, suc, _+_, _*_, _<_, _≤_, max}
 use native.Mathlib.Nat.{not-suc-le-zero, suc-mul, zero-mul, add-mul}
 use native.Mathlib.Omega.{arith}

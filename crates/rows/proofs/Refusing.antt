@@ -13,7 +13,7 @@ use Rattle.edition.specs.declared.Verdict.{Verdict}
 use Rattle.edition.specs.declared.Verdict.the-variants.{Taken, Refused}
 use Rattle.edition.specs.Refusals.{refused}
 use Rattle.rows.specs.First.{firstTo, refusedAt, refuseAt, refuseIf, firstly, verdictTo}
-use Rattle.rows.proofs.Tests.{clash, lastly}
+use Rattle.rows.proofs.Tests.{lastly}
 use Rattle.rows.proofs.Best.{Lowest, nowhere, here, first-is, first-unique}
 
 pub refused-not : {A : Type 0} {r : Refusal} → Refused r ≡ Taken → A

@@ -1,6 +1,6 @@
 -- Sums, largest values, tests and rows over the numbers below k. Each goes on to suc k from what it is at k, as a loop does.
 -- Assumes nothing.
-use mathlib.Core.Bool.{Bool, true, false, cond, _||_}
+use mathlib.Core.Bool.{Bool, false, cond, _||_}
 use mathlib.Core.List.{List, [], _∷_, _++_}
 use Prim.Native.Nat.{ℕ, zero, suc, _+_, max}
 use lib.ListN.{drop}

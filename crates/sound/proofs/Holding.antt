@@ -1,24 +1,21 @@
 -- What holds in a sound network: sizes, ends, parents, routes, shortness. Assumes nothing.
-use mathlib.Core.Path.{_≡_, refl, sym, subst, ap, _∙_}
-use mathlib.Core.Bool.{Bool, true, false, cond, not, _&&_, _||_}
-use mathlib.Core.List.{List, [], _∷_}
-use Prim.Native.Nat.{ℕ, _+_, _<_, _≤_}
-use native.Mathlib.Omega.{arith}
+use mathlib.Core.Path.{_≡_, refl}
+use mathlib.Core.Bool.{Bool, true, false, not}
+use mathlib.Core.List.{List}
+use Prim.Native.Nat.{ℕ, _<_, _≤_}
 use lib.Dec.{eqb, leb, ltb}
-use borrow.Author.Tests.{eqb-true, eqb-false, leb-true, leb-false, ltb-false, not-false}
-use Rattle.edition.specs.declared.Search.{Search}
+use borrow.Author.Tests.{eqb-false, leb-false, ltb-false, not-false}
 use Rattle.edition.specs.Limits.{nodeLimit, linkLimit, depthLimit, wholeSearch, memoryLimits}
 use Rattle.rows.specs.Lists.{differ}
 use Rattle.rows.proofs.Tests.{clash, or-false, or3-false}
-use Rattle.network.specs.declared.Link.{Link}
 use Rattle.network.specs.Network.{Net, inService, touches, otherEnd}
 use Rattle.network.specs.Records.{badNodes, badLinks, badRoot, badDepth, badEnds, unfit, badParent}
-use Rattle.tree.specs.Tree.{Tree, treeOf, dist, under, onPath}
+use Rattle.tree.specs.Tree.{treeOf, under, onPath}
 use Rattle.tree.proofs.Ways.{Way, Home}
 use Rattle.tree.proofs.Meeting.{on-path}
 use Rattle.tree.proofs.Bounded.{never-cut}
 use Rattle.sound.specs.Sound.{short, notShort}
-use Rattle.sound.proofs.Sounds.{Sound, Sized, Recorded}
+use Rattle.sound.proofs.Sounds.{Sound}
 
 -- a bad depth is over the limit and not the whole search
 whole-or-few : (depth : ℕ) → badDepth memoryLimits depth ≡ false → (b : Bool) → eqb depth wholeSearch ≡ b → b ≡ false → depth ≤ depthLimit

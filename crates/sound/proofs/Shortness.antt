@@ -1,13 +1,12 @@
 -- Shortness by a row of distances is shortness by the distances. Assumes nothing.
-use mathlib.Core.Path.{_≡_, refl, sym, ap, ap₂, _∙_}
-use mathlib.Core.Bool.{Bool, true, false, not, _&&_}
+use mathlib.Core.Path.{_≡_, refl, sym, _∙_}
+use mathlib.Core.Bool.{Bool, true, false, _&&_}
 use mathlib.Core.List.{List}
 use Prim.Native.Nat.{ℕ, _+_, _-_, _<_, _≤_}
 use native.Mathlib.Omega.{arith}
 use lib.Dec.{eqb, leb}
-use lib.ListN.{length, getD}
+use lib.ListN.{length}
 use borrow.Author.Tests.{leb-true, leb-false, le-leb, lt-leb}
-use Rattle.edition.specs.declared.Found.{Found}
 use Rattle.edition.specs.declared.Verdict.{Verdict}
 use Rattle.edition.specs.declared.Verdict.the-variants.{Taken}
 use Rattle.edition.specs.declared.Search.{Search}
@@ -19,11 +18,10 @@ use Rattle.rows.proofs.Tests.{or3-false}
 use Rattle.rows.proofs.Best.{first-cong}
 use Rattle.rows.proofs.Filling.{filled-at}
 use Rattle.rows.proofs.Refusing.{at-taken}
-use Rattle.network.specs.declared.Link.{Link}
-use Rattle.network.specs.Network.{Net, linksIn, linkIn, netOf, inService}
+use Rattle.network.specs.Network.{linksIn, linkIn, netOf}
 use Rattle.network.specs.Records.{badNodes, badEnds}
-use Rattle.tree.specs.Tree.{Tree, treeOf, dist}
-use Rattle.tree.specs.Answers.{rowVerdict, distanceRow}
+use Rattle.tree.specs.Tree.{treeOf, dist}
+use Rattle.tree.specs.Answers.{distanceRow}
 use Rattle.tree.proofs.Answering.{few-nodes, room-passes}
 use Rattle.sound.specs.Sound.{keepsShort, short, notShort}
 use Rattle.sound.specs.Work.{breaksBy, EndsIn}

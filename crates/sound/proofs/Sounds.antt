@@ -1,7 +1,6 @@
 -- A network is taken exactly where it is sound: what each check says, held for every link and node. Assumes nothing.
-use mathlib.Core.Path.{_≡_, refl, sym, subst, ap, _∙_}
-use mathlib.Core.Bool.{Bool, true, false, not}
-use mathlib.Core.List.{List, [], _∷_}
+use mathlib.Core.Path.{_≡_, sym, subst, _∙_}
+use mathlib.Core.Bool.{false}
 use Prim.Native.Nat.{ℕ, _<_}
 use borrow.Author.Tests.{not-false}
 use Rattle.edition.specs.declared.Limits.{Limits}
@@ -10,9 +9,7 @@ use Rattle.edition.specs.declared.Verdict.{Verdict}
 use Rattle.edition.specs.declared.Verdict.the-variants.{Taken}
 use Rattle.edition.specs.declared.Why.the-variants.{NodeCount, LinkCount, BadRoot, BadDepth, BadEnds, BadMark, BadParent, NoRoute, NotShort}
 use Rattle.edition.specs.Limits.{memoryLimits}
-use Rattle.rows.specs.First.{firstly}
 use Rattle.rows.proofs.Refusing.{head-taken, rest-taken, both-taken, none-left, if-taken, if-passes, at-taken, at-passes}
-use Rattle.network.specs.declared.Link.{Link}
 use Rattle.network.specs.Network.{Net}
 use Rattle.network.specs.Records.{badNodes, badLinks, badRoot, badDepth, sizeVerdict, badEnds, badMark, badParent}
 use Rattle.tree.specs.Tree.{treeOf, hasRoute}

@@ -1,18 +1,15 @@
 -- The check of a network and its tree: refusals 8 and 9, and 1 to 9 in their order. Assumes nothing.
 use mathlib.Core.Bool.{Bool, not, _&&_}
-use mathlib.Core.List.{List, [], _∷_}
+use mathlib.Core.List.{[], _∷_}
 use Prim.Native.Nat.{ℕ, _+_}
 use lib.Dec.{leb}
 use Rattle.edition.specs.declared.Verdict.{Verdict}
 use Rattle.edition.specs.declared.Verdict.the-variants.{Taken, Refused}
 use Rattle.edition.specs.declared.Why.the-variants.{BadEnds, BadMark, BadParent, NoRoute, NotShort}
-use Rattle.edition.specs.declared.Search.{Search}
 use Rattle.edition.specs.Limits.{memoryLimits}
 use Rattle.rows.specs.First.{refuseAt, firstly}
-use Rattle.network.specs.declared.Link.{Link}
 use Rattle.network.specs.Network.{Net, inService}
 use Rattle.network.specs.Records.{sizeVerdict, badEnds, badMark, badParent}
-use Rattle.sound.specs.declared.Sizes.{Sizes}
 use Rattle.sound.specs.declared.Checked.{Checked}
 use Rattle.sound.specs.declared.Checked.the-variants.{Sound, Unsound}
 use Rattle.tree.specs.Tree.{Tree, treeOf, hasRoute, dist}

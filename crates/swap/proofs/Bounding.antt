@@ -1,33 +1,28 @@
 -- In every sound network incr and max are at most 33,488,385 and sum at most 17,112,564,735. Lengths are 16-bit numbers, which
 -- the laws take as their one hypothesis beside soundness. Assumes nothing.
-use mathlib.Core.Path.{_≡_, refl, sym, subst, ap, _∙_}
-use mathlib.Core.Bool.{Bool, true, false, cond}
-use Prim.Native.Nat.{ℕ, _+_, _*_, _-_, _<_, _≤_}
+use mathlib.Core.Path.{_≡_, refl}
+use mathlib.Core.Bool.{Bool, true, false}
+use Prim.Native.Nat.{ℕ, _-_, _<_, _≤_}
 use native.Mathlib.Omega.{arith}
 use lib.Dec.{eqb}
 use borrow.Author.Tests.{eqb-false}
 use Rattle.edition.specs.declared.Found.{Found}
 use Rattle.edition.specs.declared.Found.the-variants.{Nothing, At}
-use Rattle.edition.specs.declared.Search.{Search}
 use Rattle.edition.specs.declared.Measure.{Measure}
 use Rattle.edition.specs.declared.Measure.the-variants.{Sum, Incr, Max}
-use Rattle.edition.specs.declared.Swap.{Swap}
-use Rattle.edition.specs.declared.Entry.{Entry}
-use Rattle.edition.specs.Limits.{nodeLimit, longest, wayLimit, sumLimit}
-use Rattle.rows.specs.Count.{sumTo, maxTo}
-use Rattle.rows.proofs.Tests.{clash, not-so}
+use Rattle.edition.specs.Limits.{longest, wayLimit, sumLimit}
+use Rattle.rows.proofs.Tests.{not-so}
 use Rattle.rows.proofs.Counting.{max-bound, sum-but-one}
-use Rattle.network.specs.declared.Link.{Link}
 use Rattle.network.specs.Network.{Net}
-use Rattle.tree.specs.Tree.{Tree, treeOf, dist, under}
-use Rattle.tree.proofs.Ways.{Home, above-root}
+use Rattle.tree.specs.Tree.{treeOf, dist, under}
+use Rattle.tree.proofs.Ways.{above-root}
 use Rattle.tree.proofs.Bounded.{around-bound}
 use Rattle.tree.proofs.Made.{rise-flat, rise-held}
 use Rattle.sound.proofs.Sounds.{Sound}
 use Rattle.sound.proofs.Holding.{nodes-few, root-in, first-in, second-in, home, up-in}
-use Rattle.swap.specs.Swap.{lower, upper, crosses, candidate, newDist, inside, cost, costOf, bestSwap}
+use Rattle.swap.specs.Swap.{lower, upper, crosses, newDist, inside, cost, costOf, bestSwap}
 use Rattle.swap.specs.Entry.{priced, swapOf, entry}
-use Rattle.swap.proofs.Choosing.{Chosen, chosen}
+use Rattle.swap.proofs.Choosing.{chosen}
 use Rattle.swap.proofs.Stating.{candidate-crosses}
 use Rattle.swap.proofs.Costing.{inside-small, inside-out, crossing-splits, of-lower, of-upper}
 

@@ -1,6 +1,6 @@
 -- The best swap link: it is a candidate, no candidate costs less, none of equal cost has a lower number, and there is only one
 -- such; nothing is found exactly where no link is a candidate. Assumes nothing.
-use mathlib.Core.Path.{_≡_, refl, sym, subst, ap, _∙_}
+use mathlib.Core.Path.{_≡_, refl, sym, subst, ap}
 use mathlib.Core.Bool.{Bool, true, false}
 use Prim.Native.Nat.{ℕ, _<_, _≤_}
 use native.Mathlib.Omega.{arith}
@@ -9,7 +9,6 @@ use borrow.Author.Tests.{eqb-true, eqb-false, ltb-true, ltb-false, le-ltb, lt-lt
 use Rattle.edition.specs.declared.Found.{Found}
 use Rattle.edition.specs.declared.Found.the-variants.{Nothing, At}
 use Rattle.edition.specs.declared.Measure.{Measure}
-use Rattle.rows.specs.First.{bestTo}
 use Rattle.rows.proofs.Tests.{clash}
 use Rattle.rows.proofs.Best.{IsBest, Best, none, some, Orders, best-is, best-unique}
 use Rattle.network.specs.Network.{Net}

@@ -1,22 +1,21 @@
 -- Costs: no node comes nearer by a swap, so N(u) - d(u) is never cut off at 0; what is lost is most at the failed node itself,
 -- so incr is N(x) - d(x). Assumes nothing.
-use mathlib.Core.Path.{_≡_, refl, sym, ap, _∙_}
+use mathlib.Core.Path.{_≡_, refl}
 use mathlib.Core.Bool.{Bool, true, false, not, _&&_}
 use Prim.Native.Nat.{ℕ, _+_, _-_, _<_, _≤_}
 use native.Mathlib.Nat.{le-antisymm}
 use native.Mathlib.Omega.{arith}
 use lib.Dec.{eqb, leb}
 use borrow.Author.Tests.{leb-true}
-use Rattle.edition.specs.declared.Search.{Search}
 use Rattle.edition.specs.declared.Measure.the-variants.{Incr}
-use Rattle.rows.specs.Count.{maxTo, onlyIf}
+use Rattle.rows.specs.Count.{onlyIf}
 use Rattle.rows.specs.Lists.{differ}
-use Rattle.rows.proofs.Tests.{clash, and-left, and-right, differ-cases}
+use Rattle.rows.proofs.Tests.{and-left, and-right, differ-cases}
 use Rattle.rows.proofs.Counting.{max-bound, max-reach, only-small}
 use Rattle.network.specs.declared.Link.{Link}
 use Rattle.network.specs.Network.{Net, inService}
-use Rattle.tree.specs.Tree.{Tree, treeOf, dist, under, apart}
-use Rattle.tree.proofs.Ways.{Home, home-up, under-self}
+use Rattle.tree.specs.Tree.{Tree, treeOf, dist, under}
+use Rattle.tree.proofs.Ways.{Home, under-self}
 use Rattle.tree.proofs.Meeting.{apart-over, apart-far}
 use Rattle.sound.specs.Sound.{keepsShort, short}
 use Rattle.sound.proofs.Sounds.{Sound}

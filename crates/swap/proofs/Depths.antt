@@ -1,22 +1,20 @@
 -- At depth 510 the candidates are those of the whole search: no lower end is further below a node that is not the root.
 -- The depth belongs to what is filed all the same. Assumes nothing.
-use mathlib.Core.Path.{_≡_, refl, sym, subst, ap, _∙_}
-use mathlib.Core.Bool.{Bool, true, false, _&&_, _||_}
-use Prim.Native.Nat.{ℕ, _+_, _<_, _≤_}
+use mathlib.Core.Path.{_≡_, refl, ap, _∙_}
+use mathlib.Core.Bool.{Bool, true, false}
+use Prim.Native.Nat.{ℕ, _<_, _≤_}
 use native.Mathlib.Omega.{arith}
-use lib.Dec.{eqb, leb}
-use borrow.Author.Tests.{eqb-false, le-leb, eq-eqb}
+use lib.Dec.{eqb}
+use borrow.Author.Tests.{eqb-false, le-leb}
 use Rattle.edition.specs.declared.Found.{Found}
 use Rattle.edition.specs.declared.Found.the-variants.{Nothing, At}
-use Rattle.edition.specs.declared.Search.{Search}
 use Rattle.edition.specs.declared.Measure.{Measure}
 use Rattle.edition.specs.declared.Measure.the-variants.{Sum, Incr, Max}
-use Rattle.edition.specs.declared.Entry.{Entry}
-use Rattle.edition.specs.Limits.{nodeLimit, depthLimit, wholeSearch}
+use Rattle.edition.specs.Limits.{depthLimit, wholeSearch}
 use Rattle.rows.proofs.Best.{best-cong}
 use Rattle.rows.proofs.Counting.{some-cong}
 use Rattle.network.specs.Network.{Net}
-use Rattle.tree.specs.Tree.{Tree, treeOf, under, hops}
+use Rattle.tree.specs.Tree.{treeOf, hops}
 use Rattle.tree.proofs.Bounded.{hops-few}
 use Rattle.sound.proofs.Sounds.{Sound}
 use Rattle.sound.proofs.Holding.{nodes-few, first-in, second-in, home, up-in}

@@ -1,20 +1,19 @@
 -- The sum by what is kept at each node: sum + turn(z) = base(x) + count(x) * K, with K = d(z) + w + d(z'). Assumes nothing.
-use mathlib.Core.Path.{_≡_, refl, sym, subst, ap, ap₂, _∙_}
-use mathlib.Core.Bool.{Bool, true, false, not, _&&_, _||_}
-use mathlib.Core.List.{List, [], _∷_, _++_}
-use Prim.Native.Nat.{ℕ, zero, suc, _+_, _*_, _-_, _<_, _≤_}
-use native.Mathlib.Nat.{one-mul, zero-mul, add-mul, mul-comm}
+use mathlib.Core.Path.{_≡_, refl, sym, subst, ap, _∙_}
+use mathlib.Core.Bool.{Bool, true, false, not, _||_}
+use Prim.Native.Nat.{ℕ, _+_, _*_, _-_, _<_, _≤_}
+use native.Mathlib.Nat.{one-mul, zero-mul, add-mul}
 use native.Mathlib.Omega.{arith}
 use lib.Dec.{eqb}
 use Rattle.edition.specs.declared.Measure.the-variants.{Sum}
-use Rattle.rows.specs.Count.{sumTo, maxTo, onlyIf}
+use Rattle.rows.specs.Count.{sumTo}
 use Rattle.rows.specs.Lists.{has, upTo, total}
 use borrow.Author.Tests.{eqb-true}
 use Rattle.rows.proofs.Tests.{clash, either, not-so}
 use Rattle.rows.proofs.Counting.{sum-cong, sum-add, sum-le, sum-times, sum-balance}
 use Rattle.network.specs.declared.Link.{Link}
-use Rattle.tree.specs.Tree.{Tree, route, dist, under, meet, apart}
-use Rattle.tree.proofs.Ways.{Home, home-up, home-step, under-self, under-trans, under-cut, before-under, route-step, dist-up}
+use Rattle.tree.specs.Tree.{Tree, route, dist, under, meet}
+use Rattle.tree.proofs.Ways.{Home, home-up, home-step, under-self, under-trans, under-cut, before-under, route-step}
 use Rattle.tree.proofs.Meeting.{meet-under, meet-one, meet-two, apart-dist, under-both, home-meet}
 use Rattle.tree.proofs.Climbing.{up-above, along-all}
 use Rattle.swap.specs.Swap.{lower, upper, newDist, inside, cost}

@@ -1,12 +1,10 @@
 -- What one more link does to an entry: nothing where it does not cross, else what `offered` says. Assumes nothing.
-use mathlib.Core.Path.{_≡_, refl, sym, subst, ap, ap₂, _∙_}
-use mathlib.Core.Bool.{Bool, true, false, cond, not, _&&_, _||_}
-use Prim.Native.Nat.{ℕ, zero, suc, _+_, _<_, _≤_}
-use native.Mathlib.Omega.{arith}
-use lib.Dec.{eqb, ltb}
+use mathlib.Core.Path.{_≡_, refl, sym, ap, _∙_}
+use mathlib.Core.Bool.{Bool, true, false, cond, not}
+use Prim.Native.Nat.{ℕ, suc}
+use lib.Dec.{eqb}
 use Rattle.edition.specs.declared.Found.{Found}
 use Rattle.edition.specs.declared.Found.the-variants.{Nothing, At}
-use Rattle.edition.specs.declared.Search.{Search}
 use Rattle.edition.specs.declared.Measure.{Measure}
 use Rattle.edition.specs.declared.Measure.the-variants.{Sum, Incr, Max}
 use Rattle.edition.specs.declared.Swap.{Swap}
@@ -14,10 +12,10 @@ use Rattle.edition.specs.declared.Entry.{Entry}
 use Rattle.edition.specs.Entries.{rootState, swapState, noneState, bridgeState, blank}
 use Rattle.rows.specs.Count.{someTo}
 use Rattle.rows.specs.First.{beats, bestTo}
-use Rattle.rows.proofs.Tests.{clash, and-left, or-right, or-none}
+use Rattle.rows.proofs.Tests.{or-right, or-none}
 use Rattle.rows.proofs.Best.{isAt, some-found}
 use Rattle.network.specs.Network.{Net}
-use Rattle.tree.specs.Tree.{Tree, treeOf}
+use Rattle.tree.specs.Tree.{treeOf}
 use Rattle.swap.specs.declared.Offer.{Offer}
 use Rattle.swap.specs.declared.Costs.{Costs}
 use Rattle.swap.specs.Swap.{lower, crosses, within, candidate, costOf, offer, better, before, bestSwap}

@@ -1,25 +1,25 @@
 -- The max by what is carried: reach(z,z) = deepest(z) - d(z); one step up it is the larger of itself and d(z) - d(p) + aside(x) - d(p);
 -- and max is reach + w + d(z'). Incr is K - 2 d(x). Assumes nothing.
-use mathlib.Core.Path.{_≡_, refl, sym, subst, ap, ap₂, _∙_}
-use mathlib.Core.Bool.{Bool, true, false, not, _&&_, _||_}
-use Prim.Native.Nat.{ℕ, zero, suc, _+_, _*_, _-_, _<_, _≤_, max}
+use mathlib.Core.Path.{_≡_, refl, ap}
+use mathlib.Core.Bool.{Bool, true, false, not}
+use Prim.Native.Nat.{ℕ, _+_, _-_, _<_, _≤_, max}
 use native.Mathlib.Nat.{le-antisymm}
 use native.Mathlib.Omega.{arith}
 use lib.Dec.{eqb}
-use Rattle.edition.specs.declared.Measure.the-variants.{Incr, Max}
+use Rattle.edition.specs.declared.Measure.the-variants.{Max}
 use Rattle.rows.specs.Count.{maxTo, onlyIf}
 use borrow.Author.Tests.{not-true}
-use Rattle.rows.proofs.Tests.{clash, and-left, and-right}
+use Rattle.rows.proofs.Tests.{and-left, and-right}
 use Rattle.rows.proofs.Counting.{max-bound, max-reach, only-small}
 use Rattle.network.specs.declared.Link.{Link}
-use Rattle.tree.specs.Tree.{Tree, dist, under, meet, apart}
+use Rattle.tree.specs.Tree.{Tree, dist, under, apart}
 use Rattle.tree.proofs.Ways.{Home, home-up, home-step, under-self, under-trans, dist-up}
-use Rattle.tree.proofs.Meeting.{apart-dist, apart-below, meet-two}
+use Rattle.tree.proofs.Meeting.{apart-dist}
 use Rattle.tree.proofs.Climbing.{up-above, below-not}
 use Rattle.swap.specs.Swap.{lower, upper, newDist, inside, cost}
-use Rattle.swap.specs.Fold.{deepest, beside, aside, through, reach}
-use Rattle.swap.proofs.Costing.{inside-in, inside-out, inside-small}
-use Rattle.swap.proofs.Folding.{meet-below, meet-aside, through-ends}
+use Rattle.swap.specs.Fold.{deepest, beside, aside, reach}
+use Rattle.swap.proofs.Costing.{inside-in, inside-small}
+use Rattle.swap.proofs.Folding.{meet-below, meet-aside}
 
 -- the largest over T(x): none is larger, and it is no larger than a bound of all
 module _ (t : Tree) (x : ℕ) (f : ℕ → ℕ) where

@@ -1,26 +1,20 @@
 -- States: 3 exactly where nothing crosses, 2 exactly where something crosses and nothing is within the depth, 1 exactly where a
 -- link is a candidate; only state 1 has links and costs, and then under every measure. Assumes nothing.
-use mathlib.Core.Path.{_≡_, refl, sym, subst, ap, _∙_}
-use mathlib.Core.Bool.{Bool, true, false, cond}
+use mathlib.Core.Path.{_≡_, refl}
+use mathlib.Core.Bool.{Bool, true, false}
 use Prim.Native.Nat.{ℕ, _<_}
 use native.Mathlib.Omega.{arith}
 use lib.Dec.{eqb}
-use borrow.Author.Tests.{eqb-true}
-use Rattle.edition.specs.declared.Found.{Found}
-use Rattle.edition.specs.declared.Found.the-variants.{Nothing, At}
-use Rattle.edition.specs.declared.Search.{Search}
 use Rattle.edition.specs.declared.Measure.{Measure}
 use Rattle.edition.specs.declared.Measure.the-variants.{Sum, Incr, Max}
-use Rattle.edition.specs.declared.Swap.{Swap}
-use Rattle.edition.specs.declared.Entry.{Entry}
 use Rattle.edition.specs.Entries.{rootState, swapState, noneState, bridgeState, noSwap, blank}
 use Rattle.rows.proofs.Tests.{clash, and-left}
-use Rattle.rows.proofs.Best.{some-none, none-some, some-one, one-some}
+use Rattle.rows.proofs.Best.{some-none, some-one, one-some}
 use Rattle.network.specs.Network.{Net}
 use Rattle.tree.specs.Tree.{treeOf}
-use Rattle.swap.specs.Swap.{crosses, candidate, bestSwap}
+use Rattle.swap.specs.Swap.{crosses, candidate}
 use Rattle.swap.specs.Entry.{crossed, saved, stateBelow, state, priced, swapOf, entry}
-use Rattle.swap.proofs.Choosing.{nothing-stands, nothing-found}
+use Rattle.swap.proofs.Choosing.{nothing-found}
 
 -- link e crosses x in the network
 abbrev pub Crossing : Net → ℕ → ℕ → Type 0

@@ -4,7 +4,6 @@ use Prim.Native.Nat.{ℕ}
 use lib.Dec.{eqb}
 use Rattle.edition.specs.declared.Found.{Found}
 use Rattle.edition.specs.declared.Found.the-variants.{Nothing, At}
-use Rattle.edition.specs.declared.Search.{Search}
 use Rattle.edition.specs.declared.Measure.{Measure}
 use Rattle.edition.specs.declared.Measure.the-variants.{Sum, Incr, Max}
 use Rattle.edition.specs.declared.Swap.{Swap}
@@ -12,7 +11,7 @@ use Rattle.edition.specs.declared.Entry.{Entry}
 use Rattle.edition.specs.Entries.{rootState, swapState, noneState, bridgeState, noSwap, blank}
 use Rattle.rows.specs.Count.{someTo}
 use Rattle.network.specs.Network.{Net}
-use Rattle.tree.specs.Tree.{Tree, treeOf}
+use Rattle.tree.specs.Tree.{treeOf}
 use Rattle.swap.specs.Swap.{crosses, candidate, costOf, bestSwap}
 
 -- Does some link cross x?

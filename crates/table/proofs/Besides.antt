@@ -1,20 +1,16 @@
 -- What is beside a node: the largest distance below its parent and not below it is the larger of the parent's own distance and the
 -- deepest below its siblings. Assumes nothing.
-use mathlib.Core.Path.{_≡_, refl, sym, subst, ap, _∙_}
-use mathlib.Core.Bool.{Bool, true, false, cond, not, _&&_, _||_}
-use mathlib.Core.List.{List, [], _∷_}
-use Prim.Native.Nat.{ℕ, zero, suc, _+_, _-_, _<_, _≤_, max}
-use native.Mathlib.Nat.{le-antisymm}
+use mathlib.Core.Path.{_≡_, refl, sym, subst, _∙_}
+use mathlib.Core.Bool.{Bool, true, false, not}
+use mathlib.Core.List.{List}
+use Prim.Native.Nat.{ℕ, _<_, _≤_}
 use native.Mathlib.Omega.{arith}
 use lib.Dec.{eqb}
-use borrow.Author.Tests.{eqb-true, eqb-false, eq-eqb, ne-eqb, not-true}
+use borrow.Author.Tests.{eqb-true, eqb-false, not-true}
 use Rattle.rows.specs.Lists.{has, upTo}
-use Rattle.rows.specs.Count.{maxTo, onlyIf}
 use Rattle.rows.proofs.Tests.{clash, either, and-left, and-right, not-so}
-use Rattle.rows.proofs.Counting.{max-bound, max-reach, only-small}
 use Rattle.tree.specs.Tree.{Tree, route, dist, under}
-use Rattle.tree.proofs.Ways.{Way, top, hop, Home, way, home-up, home-step, under-self, under-trans, under-cut, before-under, route-step}
-use Rattle.tree.proofs.Bounded.{under-below}
+use Rattle.tree.proofs.Ways.{Way, top, hop, Home, way, under-self, under-trans, under-cut, before-under, route-step}
 use Rattle.tree.proofs.Climbing.{up-above, below-not}
 use Rattle.swap.specs.Fold.{deepest, aside}
 use Rattle.swap.proofs.Reaching.{inside-reach, inside-bound, beside-reach, beside-bound, aside-more}

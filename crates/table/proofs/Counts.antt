@@ -2,7 +2,7 @@
 use mathlib.Core.Path.{_≡_, refl, sym, subst, ap, _∙_}
 use mathlib.Core.Bool.{Bool, true, false, cond}
 use mathlib.Core.List.{List}
-use Prim.Native.Nat.{ℕ, zero, suc, _+_, _*_, _^_, _<_, _≤_, max}
+use Prim.Native.Nat.{ℕ, suc, _+_, _*_, _<_, _≤_, max}
 use native.Mathlib.Nat.{mul-le-mul-right, le-trans}
 use native.Mathlib.Numerals.{add-one}
 use native.Mathlib.Omega.{arith}
@@ -10,14 +10,14 @@ use lib.ListN.{length, getD}
 use Rattle.edition.specs.declared.Search.{Search}
 use Rattle.edition.specs.declared.Verdict.the-variants.{Taken}
 use Rattle.edition.specs.Limits.{nodeLimit, longest}
-use Rattle.rows.specs.Count.{sumTo, maxTo, onlyIf}
-use Rattle.rows.proofs.Counting.{sum-bound, only-small}
-use Rattle.network.specs.Network.{Net, netOf}
-use Rattle.tree.specs.Tree.{Tree, treeOf, dist, under}
+use Rattle.rows.specs.Count.{sumTo, maxTo}
+use Rattle.rows.proofs.Counting.{sum-bound}
+use Rattle.network.specs.Network.{netOf}
+use Rattle.tree.specs.Tree.{Tree, dist, under}
 use Rattle.tree.proofs.Answering.{dist-small}
 use Rattle.tree.proofs.InRows.{treeIn, size-in, few}
 use Rattle.sound.specs.Sound.{netVerdict}
-use Rattle.sound.proofs.Sounds.{Sound, sound}
+use Rattle.sound.proofs.Sounds.{sound}
 use Rattle.sound.proofs.Holding.{nodes-few}
 use Rattle.swap.specs.Swap.{inside}
 use Rattle.swap.proofs.Costing.{inside-in, inside-out, inside-small}

@@ -1,35 +1,31 @@
 -- One link offered to every node that it crosses, by two climbs. Assumes nothing.
-use mathlib.Core.Path.{_≡_, refl, sym, subst, ap, ap₂, _∙_}
+use mathlib.Core.Path.{_≡_, refl, sym, subst, ap, _∙_}
 use mathlib.Core.Bool.{Bool, true, false, cond, not, _&&_, _||_}
-use mathlib.Core.List.{List, [], _∷_, _++_}
-use Prim.Native.Nat.{ℕ, zero, suc, _+_, _*_, _<_, _≤_}
+use mathlib.Core.List.{List}
+use Prim.Native.Nat.{ℕ, suc, _<_, _≤_}
 use native.Mathlib.Omega.{arith}
 use lib.Dec.{eqb}
 use lib.ListN.{length, getD}
-use borrow.Author.Tests.{eqb-true, eqb-false, eq-eqb, ne-eqb}
+use borrow.Author.Tests.{eqb-true, eqb-false, ne-eqb}
 use Rattle.edition.specs.declared.Search.{Search}
 use Rattle.edition.specs.declared.Verdict.the-variants.{Taken}
 use Rattle.rows.specs.Lists.{has, upTo, differ}
-use Rattle.rows.proofs.Tests.{clash, either, not-so, or-none, or-assoc}
-use Rattle.network.specs.declared.Link.{Link}
+use Rattle.rows.proofs.Tests.{clash, either}
 use Rattle.network.specs.Network.{Net, netOf, inService, touches}
 use Rattle.tree.specs.Tree.{Tree, treeOf, route, under, meet, onPath}
-use Rattle.tree.specs.Work.{Along}
-use Rattle.tree.proofs.Ways.{Home, under-self}
+use Rattle.tree.proofs.Ways.{Home}
 use Rattle.tree.proofs.Bounded.{under-below}
 use Rattle.tree.proofs.Climbing.{shorter}
-use Rattle.tree.proofs.InRows.{treeIn, size-in, off-root}
+use Rattle.tree.proofs.InRows.{treeIn}
 use Rattle.sound.specs.Sound.{netVerdict}
 use Rattle.sound.proofs.Sounds.{Sound, sound}
 use Rattle.sound.proofs.Holding.{first-in, second-in, parent-touches, link-path}
 use Rattle.swap.specs.Swap.{lower, crosses}
-use Rattle.swap.specs.Entry.{entry}
-use Rattle.swap.specs.Prefix.{firstLinks}
-use Rattle.swap.specs.Fold.{count, through}
+use Rattle.swap.specs.Fold.{count}
 use Rattle.swap.proofs.Prefixes.{entry-unmoved, entry-top}
 use Rattle.table.specs.declared.Side.{Side}
-use Rattle.table.specs.Table.{standing, marked}
-use Rattle.table.specs.Work.{Holds, Entries, Carries, Crossing, want, OfferedAt, Ready, Spare, Linked}
+use Rattle.table.specs.Table.{marked}
+use Rattle.table.specs.Work.{Entries, Carries, Crossing, want, OfferedAt, Ready, Spare, Linked}
 use Rattle.table.proofs.BothSides.{all-in, closed-in}
 use Rattle.table.proofs.Moving.{passed-none, passed-more}
 use Rattle.table.proofs.Offering.{entries-same}

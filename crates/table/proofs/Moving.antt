@@ -2,20 +2,19 @@
 -- Assumes nothing.
 use mathlib.Core.Path.{_≡_, refl, sym, subst, ap, _∙_}
 use mathlib.Core.Bool.{Bool, true, false, cond, _||_}
-use mathlib.Core.List.{List, [], _∷_, _++_}
-use mathlib.Core.Logic.{_≢_}
-use Prim.Native.Nat.{ℕ, suc, _+_, _^_, _<_, _≤_, max}
+use mathlib.Core.List.{List, [], _∷_}
+use Prim.Native.Nat.{ℕ, _+_, _^_, _<_, max}
 use native.Mathlib.Omega.{arith}
 use lib.Dec.{eqb}
 use lib.ListN.{length, getD, set, length-set}
 use lib.Seq.{getD-set-same, getD-set-other}
-use borrow.Author.Tests.{eqb-true, eqb-false, eq-eqb, ne-eqb}
+use borrow.Author.Tests.{eqb-true, eqb-false}
 use Rattle.edition.specs.declared.Search.{Search}
 use Rattle.edition.specs.declared.Verdict.the-variants.{Taken}
 use Rattle.rows.specs.Lists.{has, upTo}
-use Rattle.rows.proofs.Tests.{clash, or-none}
+use Rattle.rows.proofs.Tests.{or-none}
 use Rattle.rows.proofs.Listed.{has-append, upTo-out}
-use Rattle.network.specs.Network.{Net, netOf}
+use Rattle.network.specs.Network.{netOf}
 use Rattle.tree.specs.Tree.{Tree, treeOf, route, under}
 use Rattle.tree.proofs.Ways.{Home, under-self, home-up, route-root, under-cut}
 use Rattle.tree.proofs.Bounded.{under-below}

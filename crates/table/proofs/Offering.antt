@@ -1,30 +1,27 @@
 -- Offering a link to a node: its record goes on from the entry of e links to that of one more. Assumes nothing.
-use mathlib.Core.Path.{_≡_, refl, sym, subst, ap, ap₂, _∙_}
-use mathlib.Core.Bool.{Bool, true, false, cond, not, _||_}
+use mathlib.Core.Path.{_≡_, refl, sym, subst, ap, _∙_}
+use mathlib.Core.Bool.{Bool, true, false, cond, _||_}
 use mathlib.Core.List.{List}
-use Prim.Native.Nat.{ℕ, zero, suc, _+_, _*_, _^_, _<_, _≤_}
+use Prim.Native.Nat.{ℕ, suc, _*_, _<_, _≤_}
 use native.Mathlib.Omega.{arith}
 use lib.Dec.{eqb, leb}
 use lib.ListN.{length, getD}
 use lib.Seq.{sets}
-use borrow.Author.Tests.{eqb-true, eqb-false, eq-eqb, ne-eqb}
+use borrow.Author.Tests.{eqb-true, eq-eqb, ne-eqb}
 use Rattle.edition.specs.declared.Search.{Search}
 use Rattle.edition.specs.declared.Entry.{Entry}
-use Rattle.edition.specs.declared.Verdict.the-variants.{Taken}
-use Rattle.edition.specs.Limits.{nodeLimit, longest, entryWidth, wholeSearch}
+use Rattle.edition.specs.Limits.{entryWidth, wholeSearch}
 use Rattle.edition.specs.Entries.{entryRow}
 use Rattle.network.specs.Network.{Net, netOf}
-use Rattle.tree.specs.Tree.{Tree, treeOf, hops, under}
-use Rattle.tree.specs.Work.{Along}
-use Rattle.tree.proofs.InRows.{treeIn, off-root, size-in}
-use Rattle.sound.specs.Sound.{netVerdict}
-use Rattle.swap.specs.Swap.{lower, crosses, within}
+use Rattle.tree.specs.Tree.{hops}
+use Rattle.tree.proofs.InRows.{treeIn}
+use Rattle.swap.specs.Swap.{lower, within}
 use Rattle.swap.specs.Entry.{entry}
 use Rattle.swap.specs.Prefix.{firstLinks, offered}
 use Rattle.swap.specs.declared.Costs.{Costs}
 use Rattle.swap.proofs.Prefixes.{entry-offered}
 use Rattle.table.specs.declared.Side.{Side}
-use Rattle.table.specs.Table.{standing, marked}
+use Rattle.table.specs.Table.{marked}
 use Rattle.table.specs.Work.{Entries, entryAt, Carries, Crossing, Priced, want, OfferedAt, withinBy}
 use Rattle.table.proofs.Slots.{entry-known, entries-put}
 

@@ -1,30 +1,25 @@
 -- The rows that a search goes by, from rows of zeros, and what the search leaves. Assumes nothing.
-use mathlib.Core.Path.{_≡_, refl, sym, subst, ap, _∙_}
-use mathlib.Core.Bool.{Bool, true, false, cond}
+use mathlib.Core.Path.{_≡_, sym, subst, ap, _∙_}
 use mathlib.Core.List.{List}
-use Prim.Native.Nat.{ℕ, zero, suc, _+_, _*_, _<_, _≤_, max}
+use Prim.Native.Nat.{ℕ, _<_, _≤_}
 use native.Mathlib.Omega.{arith}
 use lib.ListN.{length, getD, replicate, length-replicate, getD-replicate}
 use Rattle.edition.specs.declared.Search.{Search}
 use Rattle.edition.specs.declared.Verdict.the-variants.{Taken}
 use Rattle.edition.specs.Limits.{nodeLimit}
-use Rattle.edition.specs.Entries.{entryRow}
 use Rattle.rows.specs.Count.{sumTo, maxTo, rowWith}
 use Rattle.rows.proofs.Filling.{fill-length, filled-at}
-use Rattle.network.specs.Network.{Net, netOf, linksIn}
-use Rattle.tree.specs.Tree.{Tree, treeOf, dist}
+use Rattle.network.specs.Network.{netOf, linksIn}
+use Rattle.tree.specs.Tree.{dist}
 use Rattle.tree.specs.Answers.{distanceRow}
 use Rattle.tree.proofs.InRows.{treeIn, size-in}
 use Rattle.sound.specs.Sound.{netVerdict}
 use Rattle.sound.proofs.Sounds.{sound}
 use Rattle.sound.proofs.Holding.{nodes-few}
-use Rattle.swap.specs.Swap.{inside}
-use Rattle.swap.specs.Fold.{count, weight, deepest, base, turn}
-use Rattle.swap.specs.Prefix.{firstLinks}
-use Rattle.swap.specs.Entry.{entry}
+use Rattle.swap.specs.Fold.{count, weight, deepest}
 use Rattle.swap.proofs.Prefixes.{entry-all}
 use Rattle.table.specs.Table.{freshAt}
-use Rattle.table.specs.Work.{Holds, Counted, Ready, Entries, want, startAt, LinkedTo}
+use Rattle.table.specs.Work.{Holds, Counted, Entries, want, startAt, LinkedTo}
 use Rattle.table.proofs.BothSides.{first-row}
 use Rattle.table.proofs.Offering.{entries-same}
 use Rattle.table.proofs.Searching.{start-want}

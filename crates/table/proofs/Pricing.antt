@@ -1,37 +1,34 @@
 -- The costs of a link by the rows and what is carried are those of the definitions. Assumes nothing.
 use mathlib.Core.Path.{_≡_, refl, sym, subst, ap, ap₂, _∙_}
-use mathlib.Core.Bool.{Bool, true, false}
+use mathlib.Core.Bool.{true}
 use mathlib.Core.List.{List}
 use Prim.Native.Nat.{ℕ, _+_, _*_, _-_, _^_, _<_, _≤_, max}
 use native.Mathlib.Nat.{mul-le-mul}
 use native.Mathlib.Omega.{arith}
-use lib.Dec.{eqb}
 use lib.ListN.{length, getD}
 use Rattle.edition.specs.declared.Search.{Search}
 use Rattle.edition.specs.declared.Verdict.the-variants.{Taken}
 use Rattle.edition.specs.declared.Measure.the-variants.{Sum, Incr, Max}
 use Rattle.edition.specs.Limits.{nodeLimit, longest}
 use Rattle.network.specs.declared.Link.{Link}
-use Rattle.network.specs.Network.{Net, netOf}
+use Rattle.network.specs.Network.{netOf}
 use Rattle.network.proofs.Whole.{length-held}
-use Rattle.tree.specs.Tree.{Tree, treeOf, dist, under, apart}
-use Rattle.tree.specs.Work.{Along}
-use Rattle.tree.proofs.Ways.{Home, dist-up}
+use Rattle.tree.specs.Tree.{Tree, dist, under, apart}
+use Rattle.tree.proofs.Ways.{Home}
 use Rattle.tree.proofs.Meeting.{apart-below, apart-dist}
 use Rattle.tree.proofs.Bounded.{under-below}
 use Rattle.tree.proofs.InRows.{treeIn, size-in}
 use Rattle.sound.specs.Sound.{netVerdict}
 use Rattle.sound.proofs.Sounds.{Sound, sound}
-use Rattle.swap.specs.Swap.{lower, upper, crosses, newDist, cost, costOf}
-use Rattle.swap.specs.Fold.{count, base, turn, through, reach}
-use Rattle.swap.specs.declared.Costs.{Costs}
-use Rattle.swap.proofs.Costing.{crossing-splits, never-nearer, incr-is}
+use Rattle.swap.specs.Swap.{lower, upper, newDist, cost, costOf}
+use Rattle.swap.specs.Fold.{count, base, turn, reach}
+use Rattle.swap.proofs.Costing.{never-nearer, incr-is}
 use Rattle.swap.proofs.Folding.{sum-is, through-ends}
 use Rattle.swap.proofs.Reaching.{max-is, inside-bound}
 use Rattle.table.specs.declared.Side.{Side}
-use Rattle.table.specs.Work.{Holds, Carries, Crossing, Priced, Ready}
+use Rattle.table.specs.Work.{Carries, Crossing, Priced, Ready}
 use Rattle.table.proofs.Counts.{small, dist-few}
-use Rattle.table.proofs.Stems.{counts-small, base-small, most}
+use Rattle.table.proofs.Stems.{counts-small, base-small}
 use Rattle.table.proofs.BothSides.{all-in, closed-in}
 
 module _ (links parents : List ℕ) (search : Search) (ok : netVerdict (netOf links parents search) ≡ Taken) (held : (i : ℕ) → getD links i 0 ≤ longest) (near counts bases turns : List ℕ) (h : Ready (treeIn links parents search) (length parents) near counts bases turns) (s : Side) (i : Carries (treeIn links parents search) (s .from) s) (l : s .from < length parents) (e k : ℕ) (c : Crossing (netOf links parents search) e s k) where

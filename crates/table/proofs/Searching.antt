@@ -5,20 +5,18 @@ use mathlib.Core.List.{List}
 use Prim.Native.Nat.{ℕ, suc, _+_, _*_, _<_, _≤_}
 use native.Mathlib.Omega.{arith}
 use lib.Dec.{eqb, ltb}
-use lib.ListN.{length, getD, take, drop}
+use lib.ListN.{length, drop}
 use lib.Seq.{sets, getD-take, getD-drop}
-use borrow.Author.Tests.{eqb-true, eqb-false, ltb-true, ltb-false, lt-ltb, le-ltb, eq-eqb, ne-eqb}
+use borrow.Author.Tests.{eqb-true, eqb-false, ltb-true, ltb-false, lt-ltb, le-ltb}
 use Rattle.edition.specs.declared.Entry.{Entry}
 use Rattle.edition.specs.Limits.{entryWidth}
 use Rattle.edition.specs.Entries.{rootState, bridgeState, blank, entryRow}
 use Rattle.network.specs.Network.{Net}
-use Rattle.swap.specs.Prefix.{firstLinks}
-use Rattle.swap.specs.Entry.{entry}
 use Rattle.swap.proofs.Prefixes.{entry-top, entry-none}
 use Rattle.table.specs.Table.{standing, marked}
 use Rattle.table.specs.Work.{Entries, want, startAt, Linked, LinkedTo}
 use Rattle.table.proofs.Slots.{entries-put}
-use Rattle.table.proofs.Offering.{entries-same, not-marked, is-marked}
+use Rattle.table.proofs.Offering.{entries-same}
 
 next : (k : ℕ) → suc k ≡ k + 1
 next k = omega arith

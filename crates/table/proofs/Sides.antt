@@ -1,6 +1,6 @@
 -- A climb from the lower end of a link, with what it carries. Assumes nothing.
 use mathlib.Core.Path.{_≡_, refl, sym, subst, ap, _∙_}
-use mathlib.Core.Bool.{Bool, true, false}
+use mathlib.Core.Bool.{true, false}
 use mathlib.Core.List.{List}
 use Prim.Native.Nat.{ℕ, _+_, _*_, _-_, _^_, _<_, _≤_, max}
 use native.Mathlib.Omega.{arith}
@@ -13,10 +13,9 @@ use Rattle.rows.specs.Count.{onlyIf}
 use Rattle.rows.proofs.Counting.{max-bound, only-small}
 use Rattle.network.specs.Network.{netOf}
 use Rattle.tree.specs.declared.Climb.{Climb}
-use Rattle.tree.specs.Tree.{Tree, treeOf, dist, under}
+use Rattle.tree.specs.Tree.{dist, under}
 use Rattle.tree.specs.Answers.{begun, stepped}
-use Rattle.tree.specs.Work.{Along}
-use Rattle.tree.proofs.Ways.{Home, home-up, dist-up, under-trans, under-self}
+use Rattle.tree.proofs.Ways.{Home, dist-up}
 use Rattle.tree.proofs.Bounded.{under-below}
 use Rattle.tree.proofs.Climbing.{along-start, along-step, on-parent}
 use Rattle.tree.proofs.InRows.{treeIn, size-in, off-root, few}

@@ -1,21 +1,21 @@
 -- Which links are offered: those out of service and the tree's own cross nothing. Assumes nothing.
-use mathlib.Core.Path.{_≡_, refl, sym, subst, ap, _∙_}
-use mathlib.Core.Bool.{Bool, true, false, cond, not, _&&_, _||_}
-use mathlib.Core.List.{List, [], _∷_}
-use Prim.Native.Nat.{ℕ, suc, _+_, _*_, _<_, _≤_, _^_}
+use mathlib.Core.Path.{_≡_, refl, sym, ap, _∙_}
+use mathlib.Core.Bool.{Bool, true, false, not, _&&_}
+use mathlib.Core.List.{List}
+use Prim.Native.Nat.{ℕ, _+_, _<_, _≤_, _^_}
 use native.Mathlib.Omega.{arith}
 use lib.Dec.{eqb}
 use lib.ListN.{length, getD}
-use borrow.Author.Tests.{eqb-true, eqb-false, eq-eqb, ne-eqb, not-false}
+use borrow.Author.Tests.{eqb-true, eq-eqb, ne-eqb, not-false}
 use Rattle.edition.specs.declared.Search.{Search}
 use Rattle.edition.specs.declared.Verdict.the-variants.{Taken}
-use Rattle.edition.specs.Limits.{nodeLimit, linkLimit, longest, noLink}
+use Rattle.edition.specs.Limits.{longest, noLink}
 use Rattle.rows.specs.Lists.{has, differ}
 use Rattle.rows.proofs.Tests.{not-so}
 use Rattle.network.specs.declared.Link.{Link}
 use Rattle.network.specs.Network.{Net, netOf, linkIn, linksIn, inService, otherEnd}
 use Rattle.network.specs.Records.{badParent}
-use Rattle.tree.specs.Tree.{Tree, treeOf, route, under, dist}
+use Rattle.tree.specs.Tree.{treeOf, under, dist}
 use Rattle.tree.proofs.Ways.{route-step}
 use Rattle.tree.proofs.InRows.{treeIn}
 use Rattle.sound.specs.Sound.{netVerdict}

@@ -1,9 +1,9 @@
 -- The stem of a node, step by step up its route. Assumes nothing.
-use mathlib.Core.Path.{_≡_, refl, sym, subst, ap, ap₂, _∙_}
-use mathlib.Core.Bool.{Bool, true, false}
-use mathlib.Core.List.{List, [], _∷_}
-use Prim.Native.Nat.{ℕ, zero, suc, _+_, _*_, _-_, _^_, _<_, _≤_}
-use native.Mathlib.Nat.{mul-le-mul, le-trans, zero-mul}
+use mathlib.Core.Path.{_≡_, ap, ap₂, _∙_}
+use mathlib.Core.Bool.{true, false}
+use mathlib.Core.List.{List}
+use Prim.Native.Nat.{ℕ, _+_, _*_, _-_, _^_, _<_, _≤_}
+use native.Mathlib.Nat.{mul-le-mul, zero-mul}
 use native.Mathlib.Omega.{arith}
 use lib.Dec.{eqb}
 use lib.ListN.{length, getD}
@@ -11,18 +11,17 @@ use Rattle.edition.specs.declared.Search.{Search}
 use Rattle.edition.specs.declared.Verdict.the-variants.{Taken}
 use Rattle.edition.specs.Limits.{nodeLimit, longest}
 use Rattle.rows.specs.Lists.{total}
-use Rattle.rows.specs.Count.{sumTo}
 use Rattle.rows.proofs.Counting.{sum-bound}
 use Rattle.rows.proofs.Listed.{total-bound}
-use Rattle.network.specs.Network.{Net, netOf}
-use Rattle.tree.specs.Tree.{Tree, treeOf, route, dist, under}
-use Rattle.tree.proofs.Ways.{Home, home-up, home-step, route-root, route-length, under-self}
+use Rattle.network.specs.Network.{netOf}
+use Rattle.tree.specs.Tree.{Tree, treeOf, route, dist}
+use Rattle.tree.proofs.Ways.{Home, home-up, route-root, route-length, under-self}
 use Rattle.tree.proofs.Bounded.{under-below}
 use Rattle.tree.proofs.Climbing.{on-parent, shorter}
 use Rattle.tree.proofs.InRows.{treeIn, size-in, at-root, off-root}
 use Rattle.sound.specs.Sound.{netVerdict}
 use Rattle.sound.proofs.Sounds.{Sound, sound}
-use Rattle.sound.proofs.Holding.{home, up-in, nodes-few}
+use Rattle.sound.proofs.Holding.{home, up-in}
 use Rattle.swap.specs.Swap.{inside}
 use Rattle.swap.specs.Fold.{count, weight, stemAt, stem, base, turn}
 use Rattle.swap.proofs.Costing.{inside-small}

@@ -1,20 +1,15 @@
 -- Two climbs from the ends of a link: the one with no more nodes below it is not above the other, so the link crosses the node where
 -- it is; where the two come together, the routes meet. Assumes nothing.
-use mathlib.Core.Path.{_≡_, refl, sym, subst, ap, ap₂, _∙_}
-use mathlib.Core.Bool.{Bool, true, false, cond, not, _&&_, _||_}
-use mathlib.Core.List.{List, [], _∷_, _++_}
-use Prim.Native.Nat.{ℕ, zero, suc, _+_, _*_, _<_, _≤_}
+use mathlib.Core.Path.{_≡_, refl, subst, ap₂, _∙_}
+use mathlib.Core.Bool.{Bool, true, false, not, _||_}
+use Prim.Native.Nat.{ℕ, _<_, _≤_}
 use native.Mathlib.Omega.{arith}
-use lib.Dec.{eqb}
-use lib.ListN.{length, getD}
-use borrow.Author.Tests.{eqb-true, eqb-false, eq-eqb, ne-eqb}
-use Rattle.rows.specs.Lists.{has, upTo, differ}
-use Rattle.rows.specs.Count.{sumTo}
-use Rattle.rows.proofs.Tests.{clash, either, not-so, or-none}
+use Rattle.rows.specs.Lists.{has, upTo}
+use Rattle.rows.proofs.Tests.{clash, not-so}
 use Rattle.rows.proofs.Counting.{sum-less}
-use Rattle.rows.proofs.Listed.{Meets, meets-only, upTo-out}
+use Rattle.rows.proofs.Listed.{meets-only, upTo-out}
 use Rattle.tree.specs.Tree.{Tree, route, under, meet}
-use Rattle.tree.proofs.Ways.{Home, home-up, under-self, under-trans, under-cut, under-root}
+use Rattle.tree.proofs.Ways.{Home, under-self, under-trans, under-cut, under-root}
 use Rattle.tree.proofs.Meeting.{under-both}
 use Rattle.swap.specs.Swap.{inside}
 use Rattle.swap.specs.Fold.{count}

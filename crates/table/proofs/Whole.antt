@@ -1,11 +1,11 @@
 -- The lent row as a whole: some entries afresh, and the table as the case of all. Assumes nothing.
-use mathlib.Core.Path.{_≡_, refl, sym, subst, ap, _∙_}
-use mathlib.Core.Bool.{Bool, true, false, cond, not}
-use mathlib.Core.List.{List, [], _∷_, _++_}
-use Prim.Native.Nat.{ℕ, suc, _+_, _*_, _/_, _<_, _≤_}
+use mathlib.Core.Path.{_≡_, refl, sym, ap, _∙_}
+use mathlib.Core.Bool.{Bool, true, false, cond}
+use mathlib.Core.List.{List, _++_}
+use Prim.Native.Nat.{ℕ, _*_, _<_, _≤_}
 use native.Mathlib.Omega.{arith}
-use lib.Dec.{eqb, ltb}
-use lib.ListN.{length, getD, replicate, drop, take, getD-replicate, length-replicate, length-drop}
+use lib.Dec.{ltb}
+use lib.ListN.{length, replicate, drop, getD-replicate, length-replicate, length-drop}
 use lib.Seq.{length-take-le}
 use borrow.Author.Tests.{ltb-true, ltb-false, lt-ltb}
 use Rattle.edition.specs.declared.Refusal.{Refusal}
@@ -13,10 +13,8 @@ use Rattle.edition.specs.declared.Verdict.{Verdict}
 use Rattle.edition.specs.declared.Verdict.the-variants.{Taken, Refused}
 use Rattle.edition.specs.declared.Why.the-variants.{NoRoom}
 use Rattle.edition.specs.Limits.{nodeLimit, entryWidth}
-use Rattle.edition.specs.Refusals.{made}
 use Rattle.edition.specs.Entries.{entryRow}
 use Rattle.rows.specs.Count.{rowsTo}
-use Rattle.rows.specs.First.{refuseIf, firstly}
 use Rattle.rows.proofs.Refusing.{head-taken, rest-taken, if-taken}
 use Rattle.rows.proofs.Records.{rows-cong}
 use Rattle.network.specs.Network.{Net}

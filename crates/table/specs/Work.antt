@@ -5,19 +5,16 @@ use mathlib.Core.List.{List}
 use Prim.Native.Nat.{ℕ, suc, _+_, _*_, _-_, _^_, _<_, _≤_, max}
 use lib.Dec.{eqb, leb}
 use lib.ListN.{length, getD, set}
-use Rattle.edition.specs.declared.Swap.{Swap}
 use Rattle.edition.specs.declared.Entry.{Entry}
 use Rattle.edition.specs.Limits.{entryWidth, wholeSearch}
 use Rattle.edition.specs.Entries.{rootState, bridgeState, blank, entryRow}
 use Rattle.rows.specs.Count.{sumTo, maxTo, onlyIf}
 use Rattle.edition.specs.declared.Measure.the-variants.{Sum, Incr, Max}
-use Rattle.network.specs.declared.Link.{Link}
 use Rattle.network.specs.Network.{Net, inService}
 use Rattle.tree.specs.Tree.{Tree, treeOf, dist, under}
 use Rattle.swap.specs.declared.Costs.{Costs}
 use Rattle.swap.specs.Swap.{inside, lower, crosses, costOf}
-use Rattle.swap.specs.Fold.{count as countOf, stem, base as baseOf, turn as turnOf, deepest, aside, through, reach}
-use Rattle.tree.specs.declared.Climb.{Climb}
+use Rattle.swap.specs.Fold.{stem, deepest, aside, through, reach}
 use Rattle.tree.specs.Work.{Along}
 use Rattle.swap.specs.Entry.{entry}
 use Rattle.swap.specs.Prefix.{firstLinks}

@@ -1,8 +1,8 @@
 -- What is answered of one node, of two, and of all: from the verdicts and climbs of the code to the definitions. Assumes nothing.
 use mathlib.Core.Path.{_≡_, refl, sym, subst, ap, _∙_}
-use mathlib.Core.Bool.{Bool, true, false, not, _&&_}
+use mathlib.Core.Bool.{true, false, _&&_}
 use mathlib.Core.List.{List, [], _∷_, _++_}
-use Prim.Native.Nat.{ℕ, zero, suc, _+_, _*_, _-_, _<_, _≤_}
+use Prim.Native.Nat.{ℕ, _+_, _*_, _-_, _<_, _≤_}
 use native.Mathlib.Nat.{le-trans, mul-le-mul-right}
 use native.Mathlib.Omega.{arith}
 use lib.Dec.{eqb, ltb}
@@ -16,17 +16,17 @@ use Rattle.edition.specs.declared.Why.the-variants.{NodeCount, NoRoute, NoRoom}
 use Rattle.edition.specs.declared.Search.{Search}
 use Rattle.edition.specs.Limits.{nodeLimit, longest, memoryLimits}
 use Rattle.rows.specs.Lists.{has, total}
-use Rattle.rows.specs.First.{refuseIf, firstly}
+use Rattle.rows.specs.First.{refuseIf}
 use Rattle.rows.specs.Count.{rowWith}
-use Rattle.rows.proofs.Tests.{clash, or-false, and-left, and-right}
+use Rattle.rows.proofs.Tests.{or-false, and-left, and-right}
 use Rattle.rows.proofs.Listed.{total-bound}
 use Rattle.rows.proofs.Refusing.{both-taken, none-left, if-passes, head-taken, rest-taken, head-refuses, head-passes, if-taken, only-one}
 use Rattle.network.specs.Network.{Net, netOf}
 use Rattle.network.specs.Records.{badNodes}
 use Rattle.tree.specs.declared.Climb.{Climb}
 use Rattle.tree.specs.declared.Answer.{Answer}
-use Rattle.tree.specs.declared.Answer.the-variants.{Is, Not}
-use Rattle.tree.specs.Tree.{Tree, treeOf, climb, route, hasRoute, dist, hops, meet, apart}
+use Rattle.tree.specs.declared.Answer.the-variants.{Is}
+use Rattle.tree.specs.Tree.{Tree, treeOf, climb, route, hasRoute, dist, hops}
 use Rattle.tree.specs.Answers.{roomVerdict, rowVerdict, distanceRow, hopRow, lost, wayVerdict, answerIf, routeVerdict, routeRow, routeAnswer, waysVerdict, meetAnswer, apartAnswer}
 use Rattle.tree.specs.Work.{Rooted, Routed, Onto}
 use Rattle.tree.proofs.Ways.{Way, top, hop, Home, way, home-up, route-root, route-length, hops-cut, dist-cut, under-root, way-root}

@@ -1,9 +1,9 @@
 -- How long routes can be, where each node's parent is a node: a node that has a way at all has one of at most n nodes, so the
 -- cut in `route` and the bound of refusal 8 lose nothing; and a way around a failed link passes no node twice. Assumes nothing.
-use mathlib.Core.Path.{_≡_, refl, sym, subst, ap, ap₂, _∙_}
+use mathlib.Core.Path.{_≡_, refl, sym, subst, ap₂, _∙_}
 use mathlib.Core.Bool.{Bool, true, false, _||_}
-use mathlib.Core.List.{List, [], _∷_, _++_}
-use Prim.Native.Nat.{ℕ, zero, suc, _+_, _*_, _<_, _≤_}
+use mathlib.Core.List.{List, _∷_, _++_}
+use Prim.Native.Nat.{ℕ, _+_, _*_, _<_, _≤_}
 use native.Mathlib.Nat.{suc-mul, one-mul, add-mul, mul-le-mul-right}
 use native.Mathlib.Omega.{arith}
 use lib.Dec.{eqb}
@@ -12,9 +12,9 @@ use borrow.Author.Tests.{eqb-true, ne-eqb}
 use Rattle.rows.specs.Lists.{has, upTo, total}
 use Rattle.rows.proofs.Tests.{clash, either}
 use Rattle.rows.proofs.Listed.{has-append, total-bound, upTo-less, upTo-out}
-use Rattle.rows.proofs.Distinct.{Distinct, nil, cons, pigeons, distinct-append, distinct-upTo}
+use Rattle.rows.proofs.Distinct.{Distinct, cons, pigeons, distinct-append, distinct-upTo}
 use Rattle.tree.specs.Tree.{Tree, route, dist, under, hops, wayUp, meet, apart}
-use Rattle.tree.proofs.Ways.{Way, top, hop, Home, way, way-home, way-distinct, home-up, hops-cut, under-trans, under-root, before-on, before-under}
+use Rattle.tree.proofs.Ways.{Way, top, hop, Home, way, way-home, way-distinct, home-up, hops-cut, under-trans, before-on, before-under}
 use Rattle.tree.proofs.Meeting.{meet-one, meet-two, meet-none, meet-under}
 
 -- lengths of at most so much a node, added up

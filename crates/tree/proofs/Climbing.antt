@@ -1,21 +1,20 @@
 -- The climbing cursor against the route. From its start the cursor's hops and distance are those of the node that it has come to;
 -- no sum wraps, since no climb takes more steps than there can be nodes. Assumes nothing.
-use mathlib.Core.Path.{_≡_, refl, sym, subst, ap, ap₂, _∙_}
-use mathlib.Core.Bool.{Bool, true, false, cond, _||_}
+use mathlib.Core.Path.{_≡_, refl, sym, subst, ap, _∙_}
+use mathlib.Core.Bool.{true, false}
 use mathlib.Core.List.{List, [], _∷_, _++_, append-assoc}
-use Prim.Native.Nat.{ℕ, zero, suc, _+_, _*_, _-_, _%_, _^_, _<_, _≤_}
-use native.Mathlib.Nat.{not-suc-le-zero, mod-eq-of-lt, suc-mul}
-use native.Mathlib.Numerals.{add-one}
+use Prim.Native.Nat.{ℕ, suc, _+_, _*_, _-_, _%_, _^_, _<_, _≤_}
+use native.Mathlib.Nat.{mod-eq-of-lt}
 use native.Mathlib.Omega.{arith}
 use lib.Dec.{eqb}
 use lib.ListN.{length, length-append}
 use borrow.Author.Tests.{eqb-true, eq-eqb, ne-eqb}
 use Rattle.edition.specs.Limits.{nodeLimit, longest}
-use Rattle.rows.specs.Lists.{has, upTo, firstOf, total}
+use Rattle.rows.specs.Lists.{has, upTo, total}
 use Rattle.rows.proofs.Tests.{clash, either, or-false, or-right, not-so}
-use Rattle.rows.proofs.Listed.{has-append, has-head, total-append, total-bound, upTo-here, upTo-past, upTo-out}
+use Rattle.rows.proofs.Listed.{has-append, total-append, total-bound, upTo-here, upTo-past}
 use Rattle.tree.specs.declared.Climb.{Climb}
-use Rattle.tree.specs.Tree.{Tree, climb, route, arrives, hasRoute, dist, under, hops, wayUp}
+use Rattle.tree.specs.Tree.{Tree, climb, route, arrives, dist, under, hops, wayUp}
 use Rattle.tree.specs.Answers.{begun, stepped}
 use Rattle.tree.specs.Work.{Rooted, Along}
 use Rattle.tree.proofs.Ways.{Way, top, hop, Home, way, route-step, route-length, home-up, home-step, route-cut, under-self, under-trans, before-longer, after-shorter, hops-cut, way-head}

@@ -1,7 +1,7 @@
 -- The laws of climbing for the tree of lent rows, in the words of the code: numbers of 16 bits, tests on node numbers.
 -- Assumes nothing.
-use mathlib.Core.Path.{_≡_, refl, sym, ap, _∙_}
-use mathlib.Core.Bool.{Bool, true, false}
+use mathlib.Core.Path.{_≡_, refl}
+use mathlib.Core.Bool.{true, false}
 use mathlib.Core.List.{List}
 use Prim.Native.Nat.{ℕ, _+_, _<_, _≤_}
 use lib.Dec.{eqb}
@@ -9,11 +9,11 @@ use lib.ListN.{length, getD}
 use borrow.Author.Tests.{eq-eqb, ne-eqb}
 use Rattle.edition.specs.declared.Search.{Search}
 use Rattle.edition.specs.Limits.{nodeLimit, longest}
-use Rattle.network.specs.Network.{Net, netOf}
+use Rattle.network.specs.Network.{netOf}
 use Rattle.tree.specs.declared.Climb.{Climb}
 use Rattle.tree.specs.Tree.{Tree, treeOf, climb, route}
 use Rattle.tree.specs.Answers.{begun, stepped}
-use Rattle.tree.specs.Work.{Rooted, Along}
+use Rattle.tree.specs.Work.{Rooted}
 use Rattle.tree.proofs.Made.{rise-flat, rise-small}
 use Rattle.tree.proofs.Climbing.{Rising, rising-start, rising-more, rising-root, rising-end}
 

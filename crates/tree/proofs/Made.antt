@@ -8,8 +8,7 @@ use lib.Dec.{eqb}
 use lib.ListN.{getD}
 use Rattle.edition.specs.declared.Search.{Search}
 use Rattle.edition.specs.Limits.{longest}
-use Rattle.network.specs.declared.Link.{Link}
-use Rattle.network.specs.Network.{Net, linkIn, netOf}
+use Rattle.network.specs.Network.{Net, netOf}
 use Rattle.network.proofs.Whole.{length-held}
 use Rattle.tree.specs.Tree.{treeOf}
 

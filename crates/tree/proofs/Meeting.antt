@@ -1,17 +1,16 @@
 -- Where two routes meet, the tree path, and which tree links lie on it. Assumes nothing.
-use mathlib.Core.Path.{_≡_, refl, sym, subst, ap, _∙_}
+use mathlib.Core.Path.{_≡_, refl, sym, ap, _∙_}
 use mathlib.Core.Bool.{Bool, true, false, _||_}
-use mathlib.Core.List.{List, [], _∷_, _++_}
-use Prim.Native.Nat.{ℕ, _+_, _<_, _≤_}
+use mathlib.Core.List.{List, [], _∷_}
+use Prim.Native.Nat.{ℕ, _+_, _≤_}
 use native.Mathlib.Omega.{arith}
 use lib.Dec.{eqb}
-use lib.ListN.{length}
 use borrow.Author.Tests.{eqb-true}
 use Rattle.rows.specs.Lists.{has, upTo, differ}
-use Rattle.rows.proofs.Tests.{clash, either, not-so}
+use Rattle.rows.proofs.Tests.{clash}
 use Rattle.rows.proofs.Listed.{Meets, firstOf-meets, has-head, upTo-past}
-use Rattle.tree.specs.Tree.{Tree, route, dist, under, wayUp, meet, apart, onPath}
-use Rattle.tree.proofs.Ways.{Way, top, hop, Home, way, way-root, home-up, dist-cut, dist-up, under-self, under-cut, under-trans, before-longer, after-shorter, before-not-after, before-on, before-under}
+use Rattle.tree.specs.Tree.{Tree, route, dist, under, meet, apart, onPath}
+use Rattle.tree.proofs.Ways.{Way, top, hop, Home, way, way-root, home-up, dist-cut, dist-up, under-self, under-cut, before-longer, after-shorter, before-not-after}
 
 apart-bools : (a b c : Bool) → (a ≡ true → (b || c) ≡ false) → (b ≡ true → c ≡ false) → (a || b) ≡ differ (a || c) (b || c)
 apart-bools true b c f g = rw (f refl)

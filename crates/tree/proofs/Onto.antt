@@ -3,22 +3,21 @@
 use mathlib.Core.Path.{_≡_, refl, sym, subst, ap, _∙_}
 use mathlib.Core.Bool.{Bool, true, false, not, _||_}
 use mathlib.Core.List.{List, [], _∷_, _++_}
-use Prim.Native.Nat.{ℕ, suc, _+_, _*_, _-_, _<_, _≤_}
+use Prim.Native.Nat.{ℕ, _+_, _-_, _<_, _≤_}
 use native.Mathlib.Omega.{arith}
 use lib.Dec.{eqb}
 use lib.ListN.{length, getD}
-use borrow.Author.Tests.{eqb-true, eq-eqb, not-true, not-false}
+use borrow.Author.Tests.{eqb-true, not-true, not-false}
 use Rattle.edition.specs.declared.Search.{Search}
 use Rattle.edition.specs.Limits.{nodeLimit, longest}
-use Rattle.rows.specs.Lists.{has, upTo, firstOf}
+use Rattle.rows.specs.Lists.{has, upTo}
 use Rattle.rows.proofs.Tests.{clash, either}
-use Rattle.rows.proofs.Listed.{Meets, has-append, has-head, meets-only}
+use Rattle.rows.proofs.Listed.{has-append, meets-only}
 use Rattle.tree.specs.declared.Climb.{Climb}
-use Rattle.tree.specs.Tree.{Tree, route, hasRoute, dist, under, hops, wayUp, meet, apart}
+use Rattle.tree.specs.Tree.{Tree, route, dist, under, meet, apart}
 use Rattle.tree.specs.Answers.{begun, stepped}
 use Rattle.tree.specs.Work.{Rooted, Along, Onto}
-use Rattle.tree.proofs.Ways.{Home, home-up, dist-cut, dist-up}
-use Rattle.tree.proofs.Meeting.{meet-two}
+use Rattle.tree.proofs.Ways.{Home, dist-cut, dist-up}
 use Rattle.tree.proofs.Climbing.{way-on, along-start, along-step, shorter, start-cut}
 use Rattle.tree.proofs.InRows.{treeIn, size-in, off-root, few}
 

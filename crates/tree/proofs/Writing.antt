@@ -1,18 +1,15 @@
 -- The recursion up the tree: what one call writes and gives, from what the next one does. Assumes nothing.
-use mathlib.Core.Path.{_≡_, refl, sym, subst, ap, ap₂, _∙_}
-use mathlib.Core.Bool.{Bool, true, false}
-use mathlib.Core.List.{List, [], _∷_, _++_}
-use Prim.Native.Nat.{ℕ, zero, suc, _+_, _*_, _-_, _<_, _≤_}
-use native.Mathlib.Nat.{suc-mul}
-use native.Mathlib.Numerals.{add-one, sub-one}
+use mathlib.Core.Path.{_≡_, refl, sym, ap, ap₂, _∙_}
+use mathlib.Core.List.{List, _∷_}
+use Prim.Native.Nat.{ℕ, zero, suc, _+_, _-_, _≤_}
+use native.Mathlib.Numerals.{add-one}
 use native.Mathlib.Omega.{arith}
-use lib.Dec.{eqb}
-use lib.ListN.{length, getD, set, take, drop}
-use lib.Seq.{sets, sets-eq}
+use lib.ListN.{getD, set}
+use lib.Seq.{sets}
 use Rattle.edition.specs.declared.Search.{Search}
 use Rattle.edition.specs.Limits.{longest}
 use Rattle.rows.specs.Lists.{total}
-use Rattle.tree.specs.Tree.{Tree, climb, route, hops, dist}
+use Rattle.tree.specs.Tree.{climb, route}
 use Rattle.tree.specs.Work.{Routed}
 use Rattle.tree.proofs.Made.{rise-flat}
 use Rattle.tree.proofs.Climbing.{climb-none, climb-root, climb-up}

@@ -2,7 +2,7 @@
 -- two. None of these checks the network beyond what it needs: n within the limit, a node that has a route, room. Assumes nothing.
 use mathlib.Core.Bool.{Bool, not, _&&_}
 use mathlib.Core.List.{List, [], _∷_, _++_}
-use Prim.Native.Nat.{ℕ, zero, suc, _+_, _%_, _^_}
+use Prim.Native.Nat.{ℕ, _+_, _%_, _^_}
 use lib.Dec.{ltb}
 use lib.ListN.{length, drop}
 use Rattle.edition.specs.declared.Verdict.{Verdict}

@@ -1,11 +1,10 @@
 -- The tree that the parent links make: routes, distances, what is below a node, where routes meet, the tree path between two
 -- nodes. All of it is said of the tree alone, so what leaves the tree alone leaves all of it alone. Assumes nothing.
-use mathlib.Core.Bool.{Bool, true, false, cond, _||_}
+use mathlib.Core.Bool.{Bool, false, cond, _||_}
 use mathlib.Core.List.{List, [], _∷_}
 use Prim.Native.Nat.{ℕ, zero, suc, _+_}
 use lib.Dec.{eqb}
 use lib.ListN.{length}
-use Rattle.network.specs.declared.Link.{Link}
 use Rattle.rows.specs.Lists.{has, upTo, firstOf, total}
 use Rattle.network.specs.Network.{Net, otherEnd}
 

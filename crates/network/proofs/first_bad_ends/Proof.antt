@@ -1,19 +1,12 @@
 -- `network::first_bad_ends` meets its contract. Assumes nothing.
 use Rattle.rows.proofs.Seeking.{Seeking, seek-start, seek-more, seek-done}
 use mathlib.Core.Path.{_∙_, ap}
-use mathlib.Core.Bool.{not}
 use Prim.Native.Nat.{_-_}
-use lib.ListN.{length}
 use Rattle.network.specs.Records.{badEnds}
 use Rattle.network.specs.Network.{linkIn, linksIn}
 use borrow.Author.Needs.{needs}
 use Rattle.network.proofs.first_bad_ends.Statement.{statement}
 use Rattle.network.proofs.first_bad_ends.Tie as tie
-use Rattle.network.proofs.first_bad_ends.Reads as reads
-use Rattle.network.proofs.first_bad_ends.Lts as lts
-use Rattle.network.proofs.bad_ends.Reads as bad-ends-reads
-use Rattle.network.proofs.link_at.Reads as link-at-reads
-use Rattle.rows.proofs.or_here.Reads as or-here-reads
 
 abbrev Inv-loop : tie.InvT-loop
 Inv-loop links n found₀ e₀ found e = Seeking (λ e. badEnds n (linkIn links e)) (linksIn links) e found

@@ -1,20 +1,13 @@
 -- `network::first_bad_mark` meets its contract. Assumes nothing.
 use Rattle.rows.proofs.Seeking.{Seeking, seek-start, seek-more, seek-done}
 use mathlib.Core.Path.{_∙_, ap}
-use mathlib.Core.Bool.{not}
 use Prim.Native.Nat.{_-_}
-use lib.ListN.{length}
 use Rattle.network.specs.Records.{badMark}
 use Rattle.network.specs.Network.{linkIn, linksIn}
 use Rattle.network.specs.declared.Link.{Link}
 use borrow.Author.Needs.{needs}
 use Rattle.network.proofs.first_bad_mark.Statement.{statement}
 use Rattle.network.proofs.first_bad_mark.Tie as tie
-use Rattle.network.proofs.first_bad_mark.Reads as reads
-use Rattle.network.proofs.first_bad_mark.Lts as lts
-use Rattle.network.proofs.bad_mark.Reads as bad-mark-reads
-use Rattle.network.proofs.link_at.Reads as link-at-reads
-use Rattle.rows.proofs.or_here.Reads as or-here-reads
 
 abbrev Inv-loop : tie.InvT-loop
 Inv-loop links found₀ e₀ found e = Seeking (λ e. badMark (linkIn links e .mark)) (linksIn links) e found

@@ -1,7 +1,5 @@
 -- `network::first_bad_parent` meets its contract. Assumes nothing.
 use Rattle.rows.proofs.Seeking.{Seeking, seek-start, seek-more, seek-done}
-use mathlib.Core.Path.{_∙_, ap}
-use mathlib.Core.Bool.{not}
 use Prim.Native.Nat.{_-_}
 use lib.ListN.{length}
 use Rattle.network.specs.Records.{badParent}
@@ -9,10 +7,6 @@ use Rattle.network.specs.Network.{netOf}
 use borrow.Author.Needs.{needs}
 use Rattle.network.proofs.first_bad_parent.Statement.{statement}
 use Rattle.network.proofs.first_bad_parent.Tie as tie
-use Rattle.network.proofs.first_bad_parent.Reads as reads
-use Rattle.network.proofs.first_bad_parent.Lts as lts
-use Rattle.network.proofs.bad_parent.Reads as bad-parent-reads
-use Rattle.rows.proofs.or_here.Reads as or-here-reads
 
 abbrev Inv-loop : tie.InvT-loop
 Inv-loop links parents search found₀ u₀ found u = Seeking (badParent (netOf links parents search)) (length parents) u found

@@ -1,19 +1,12 @@
 -- `sound::first_breaking` meets its contract. Assumes nothing.
 use Rattle.rows.proofs.Seeking.{Seeking, seek-start, seek-more, seek-done}
 use mathlib.Core.Path.{_∙_, ap}
-use mathlib.Core.Bool.{not}
 use Prim.Native.Nat.{_-_}
-use lib.ListN.{length}
 use Rattle.sound.specs.Work.{breaksBy}
 use Rattle.network.specs.Network.{linkIn, linksIn}
 use borrow.Author.Needs.{needs}
 use Rattle.sound.proofs.first_breaking.Statement.{statement}
 use Rattle.sound.proofs.first_breaking.Tie as tie
-use Rattle.sound.proofs.first_breaking.Reads as reads
-use Rattle.sound.proofs.first_breaking.Lts as lts
-use Rattle.network.proofs.link_at.Reads as link-at-reads
-use Rattle.rows.proofs.or_here.Reads as or-here-reads
-use Rattle.sound.proofs.breaks_by.Reads as breaks-by-reads
 
 abbrev Inv-loop : tie.InvT-loop
 Inv-loop links row found₀ e₀ found e = Seeking (λ e. breaksBy row (linkIn links e)) (linksIn links) e found

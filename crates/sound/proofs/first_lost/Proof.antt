@@ -1,6 +1,6 @@
 -- `sound::first_lost` meets its contract. Assumes nothing.
 use Rattle.rows.proofs.Seeking.{Seeking, seek-start, seek-more, seek-done}
-use mathlib.Core.Path.{_∙_, ap}
+use mathlib.Core.Path.{ap}
 use mathlib.Core.Bool.{not}
 use Prim.Native.Nat.{_-_}
 use lib.ListN.{length}
@@ -9,10 +9,6 @@ use Rattle.network.specs.Network.{netOf}
 use borrow.Author.Needs.{needs}
 use Rattle.sound.proofs.first_lost.Statement.{statement}
 use Rattle.sound.proofs.first_lost.Tie as tie
-use Rattle.sound.proofs.first_lost.Reads as reads
-use Rattle.sound.proofs.first_lost.Lts as lts
-use Rattle.rows.proofs.or_here.Reads as or-here-reads
-use Rattle.tree.proofs.has_route.Reads as has-route-reads
 
 abbrev Inv-loop : tie.InvT-loop
 Inv-loop links parents search found₀ u₀ found u = Seeking (noRoute (netOf links parents search)) (length parents) u found

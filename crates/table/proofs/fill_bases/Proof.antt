@@ -1,6 +1,6 @@
 -- `table::fill_bases` meets its contract. Assumes nothing.
 use Prim.Native.Nat.{_-_}
-use mathlib.Core.Path.{_∙_, ap}
+use mathlib.Core.Path.{_∙_}
 use lib.ListN.{length}
 use Rattle.tree.proofs.InRows.{treeIn}
 use Rattle.swap.specs.Fold.{base, turn}

@@ -16,8 +16,8 @@ word-requires-3 c κs = search needs
 word-requires-4 : tie.Need-word-requires-4
 word-requires-4 c κs = search needs
 
-cast-t13 : tie.Need-cast-t13
-cast-t13 c = search needs
+cast-t5 : tie.Need-cast-t5
+cast-t5 c = search needs
 
 long-requires : tie.Need-long-requires
 long-requires c κs = search needs
@@ -46,7 +46,7 @@ head-of-spec =
     word-requires-2
     word-requires-3
     word-requires-4
-    cast-t13
+    cast-t5
     long-requires
     long-requires-2
     word-requires-5

@@ -1,19 +1,19 @@
 -- `probe::tables::is_kept` meets its contract. Assumes nothing.
-use Prim.Native.Nat.{_-_}
-use mathlib.Core.Path.{_≡_}
+use Rattle.probe.proofs.Keeping.{Keeping, keep-start, keep-more, keep-changed, keep-all}
 use lib.ListN.{length}
+use Prim.Native.Nat.{_-_}
 use borrow.Author.Needs.{needs}
 use Rattle.probe.proofs.tables.is_kept.Statement.{statement}
 use Rattle.probe.proofs.tables.is_kept.Tie as tie
 
 abbrev Inv-loop : tie.InvT-loop
-Inv-loop row from i₀ i = length row ≡ length row
+Inv-loop row from i₀ i = Keeping row from i
 
 abbrev μ-loop : tie.MeasureT-loop
 μ-loop row from i₀ i = length row - i
 
 loop-holds : tie.Need-loop-holds Inv-loop μ-loop
-loop-holds c = search needs
+loop-holds c = keep-start _ _
 
 mul-if1 : tie.Need-mul-if1 Inv-loop μ-loop
 mul-if1 c = search needs
@@ -22,7 +22,7 @@ shared-slice-read-if1 : tie.Need-shared-slice-read-if1 Inv-loop μ-loop
 shared-slice-read-if1 c = search needs
 
 returns : tie.Need-returns Inv-loop μ-loop
-returns c = search needs
+returns c = keep-changed _ _ _ (c .before .before .before .loop .inv) (c .before .before .loop-test .taken) (c .if1 .taken)
 
 add-i : tie.Need-add-i Inv-loop μ-loop
 add-i c = search needs
@@ -31,10 +31,10 @@ loop-less : tie.Need-loop-less Inv-loop μ-loop
 loop-less c = search needs
 
 loop-again : tie.Need-loop-again Inv-loop μ-loop
-loop-again c = search needs
+loop-again c = keep-more _ _ _ (c .before .before .before .loop .inv) (c .if1 .left)
 
 returns-2 : tie.Need-returns-2 Inv-loop μ-loop
-returns-2 c = search needs
+returns-2 c = keep-all _ _ _ (c .before .loop .inv) (c .loop-test .left)
 
 pub is-kept-spec : {M : Type 1} → statement M
 is-kept-spec =

@@ -1,13 +1,13 @@
 -- `probe::tables::put_entries` meets its contract. Assumes nothing.
-use Prim.Native.Nat.{_-_}
-use mathlib.Core.Path.{_≡_}
 use lib.ListN.{length}
+use Prim.Native.Nat.{_-_, _≤_}
+use mathlib.Core.Path.{_≡_}
 use borrow.Author.Needs.{needs}
 use Rattle.probe.proofs.tables.put_entries.Statement.{statement}
 use Rattle.probe.proofs.tables.put_entries.Tie as tie
 
 abbrev Inv-loop : tie.InvT-loop
-Inv-loop out₀ at row n waits₀ u₀ out waits u = length out ≡ length out₀
+Inv-loop out₀ at row n waits₀ u₀ out waits u = (length out ≡ length out₀) × (waits ≤ length out)
 
 abbrev μ-loop : tie.MeasureT-loop
 μ-loop out₀ at row n waits₀ u₀ out waits u = n - u

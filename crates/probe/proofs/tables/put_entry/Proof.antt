@@ -1,8 +1,8 @@
 -- `probe::tables::put_entry` meets its contract. Assumes nothing.
 use Rattle.edition.specs.Limits.{entryWidth}
+use lib.ListN.{length}
 use Prim.Native.Nat.{_-_}
 use mathlib.Core.Path.{_≡_}
-use lib.ListN.{length}
 use borrow.Author.Needs.{needs}
 use Rattle.probe.proofs.tables.put_entry.Statement.{statement}
 use Rattle.probe.proofs.tables.put_entry.Tie as tie
