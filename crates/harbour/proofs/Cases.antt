@@ -17,7 +17,7 @@ use Rattle.sound.specs.Sound.{noRoute, keepsShort, short, notShort, recordVerdi
 use Rattle.swap.specs.Swap.{lower, upper, crosses, within, candidate, newDist, inside, cost, costOf, offer, better, before, bestSwap}
 use Rattle.swap.specs.Entry.{crossed, saved, stateBelow, state, priced, swapOf, entry}
 use Rattle.table.specs.Table.{table, standing, tableVerdict, tableRow, marked, freshAt, freshRow}
-use Rattle.table.specs.Map.{unprotected, word, mapOf, ones, lowest, mapVerdict, mapRow}
+use Rattle.map.specs.Map.{unprotected, word, mapOf, ones, lowest, mapVerdict, mapRow}
 use Rattle.change.specs.Change.{isParent, breaks, changeVerdict, setLink, mendedAt, mended, changed}
 
 pub harbour-cases : holds cases ≡ true

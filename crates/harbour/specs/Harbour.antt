@@ -14,7 +14,7 @@ use Rattle.rows.specs.Lists.{same}
 use Rattle.network.specs.Network.{Net, netOf}
 use Rattle.swap.specs.Entry.{entry}
 use Rattle.table.specs.Table.{tableVerdict, tableRow}
-use Rattle.table.specs.Map.{mapVerdict, mapRow, ones, lowest}
+use Rattle.map.specs.Map.{mapVerdict, mapRow, ones, lowest}
 use Rattle.change.specs.Change.{changeVerdict, changed, Lent}
 
 -- Links as two ends, length and service mark; parent links of nodes 0 to 4.

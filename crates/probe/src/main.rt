@@ -3,6 +3,7 @@
 mod checking;
 mod input;
 mod limits;
+mod maps;
 mod ops;
 mod output;
 mod tables;

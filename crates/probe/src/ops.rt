@@ -7,6 +7,7 @@ ghost use Rattle.probe.specs.Limits.{isOp, takesBytes};
 use crate::checking;
 use crate::input;
 use crate::input::Head;
+use crate::maps;
 use crate::output;
 use crate::tables;
 
@@ -33,7 +34,7 @@ pub fn is_op(op: u16) -> bool
     if op < CHECK {
         return false;
     }
-    op <= TABLE
+    op <= MAP
 }
 
 // Whether bytes follow the parents, not link numbers.
@@ -72,6 +73,17 @@ pub fn answer(
     }
     if op == TABLE {
         return tables::table(
+            input::first(links, head.rest),
+            input::first(parents, head.parents),
+            head.search,
+            row,
+            head.room,
+            out,
+            at,
+        );
+    }
+    if op == MAP {
+        return maps::map(
             input::first(links, head.rest),
             input::first(parents, head.parents),
             head.search,

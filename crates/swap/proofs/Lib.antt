@@ -6,3 +6,4 @@ pub mod Folding
 pub mod Reaching
 pub mod Depths
 pub mod Prefixes
+pub mod Parallels

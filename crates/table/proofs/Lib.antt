@@ -14,3 +14,4 @@ pub mod Skipping
 pub mod Searching
 pub mod Preparing
 pub mod Whole
+pub mod Single

@@ -2,10 +2,12 @@
 use mathlib.Core.Bool.{Bool, cond, not}
 use mathlib.Core.List.{List, [], _∷_, _++_}
 use Prim.Native.Nat.{ℕ, _*_, _/_}
-use lib.Dec.{eqb, ltb}
+use lib.Dec.{eqb, ltb, leb}
 use lib.ListN.{length, getD, take, drop}
 use Rattle.edition.specs.declared.Verdict.{Verdict}
-use Rattle.edition.specs.declared.Why.the-variants.{NoRoom}
+use Rattle.edition.specs.declared.Verdict.the-variants.{Taken, Refused}
+use Rattle.edition.specs.declared.Why.the-variants.{NoRoute, NoRoom}
+use Rattle.edition.specs.declared.Entry.{Entry}
 use Rattle.edition.specs.Limits.{entryWidth}
 use Rattle.edition.specs.Refusals.{made}
 use Rattle.edition.specs.Entries.{entryRow}
@@ -14,6 +16,8 @@ use Rattle.rows.specs.First.{refuseIf, firstly}
 use Rattle.network.specs.Network.{Net}
 use Rattle.sound.specs.Sound.{netVerdict}
 use Rattle.swap.specs.Entry.{entry}
+use Rattle.table.specs.declared.EntryAnswer.{EntryAnswer}
+use Rattle.table.specs.declared.EntryAnswer.the-variants.{Is, Not}
 
 -- The record of each node's entry, one after the other.
 unfoldable pub table : Net → List ℕ
@@ -34,6 +38,18 @@ tableVerdict g row = firstly (netVerdict g ∷ refuseIf (ltb (entriesIn row) (g 
 -- What the lent row then holds: the table and what lay past it, or on a refusal what it held.
 unfoldable pub tableRow : Net → List ℕ → List ℕ
 tableRow g row = let new = table g ++ drop (g .nodes * entryWidth) row in made (tableVerdict g row) new row
+
+-- One node's entry: 1 to 9, then 8 at x where x is no node.
+unfoldable pub entryVerdict : Net → ℕ → Verdict
+entryVerdict g x = firstly (netVerdict g ∷ refuseIf (leb (g .nodes) x) NoRoute x ∷ [])
+
+-- An entry where the verdict is taken, else the refusal.
+abbrev pub entryIf : Verdict → Entry → EntryAnswer
+entryIf Taken e = Is e
+entryIf (Refused r) e = Not r
+
+unfoldable pub entryAnswer : Net → ℕ → EntryAnswer
+entryAnswer g x = entryIf (entryVerdict g x) (entry g x)
 
 -- Is a node among those to be worked out?
 unfoldable pub marked : List ℕ → ℕ → Bool

@@ -14,7 +14,7 @@ use Rattle.network.specs.Network.{Net, inService}
 use Rattle.tree.specs.Tree.{Tree, treeOf, dist, under}
 use Rattle.swap.specs.declared.Costs.{Costs}
 use Rattle.swap.specs.Swap.{inside, lower, crosses, costOf}
-use Rattle.swap.specs.Fold.{stem, deepest, aside, through, reach}
+use Rattle.swap.specs.Fold.{count as countOf, stem, base as baseOf, turn as turnOf, deepest, aside, through, reach}
 use Rattle.tree.specs.Work.{Along}
 use Rattle.swap.specs.Entry.{entry}
 use Rattle.swap.specs.Prefix.{firstLinks}

@@ -1,4 +1,4 @@
-// The table of all entries and the unprotected map.
+// The table: all entries, some of them afresh, or one.
 ghost use mathlib.Core.Path.{_≡_};
 ghost use Prim.Native.Nat.{ℕ, _+_, _*_, _<_, _≤_, _^_, max};
 ghost use lib.ListN.{length, getD};
@@ -12,12 +12,14 @@ ghost use Rattle.network.specs.Network.{netOf, linksIn};
 ghost use Rattle.rows.specs.Count.{rowWith};
 ghost use Rattle.tree.specs.Tree.{treeOf, dist};
 ghost use Rattle.sound.specs.Sound.{netVerdict};
+ghost use Rattle.swap.specs.Entry.{entry};
 ghost use Rattle.swap.specs.Fold.{count as countOf, weight as weightOf, stem, base as baseOf, turn as turnOf, deepest};
 ghost use Rattle.table.specs.Work.{Holds, FoldedAt, Foldable, Added, Counted, placed, Raised, Passed, Asides, entryAt, Carries, Crossing, Priced, Ready, OfferedAt, withinBy, Spare, Starting, Linked, LinkedTo, Entries, startAt};
-ghost use Rattle.table.specs.Table.{marked, freshAt, tableVerdict, freshRow, tableRow};
+ghost use Rattle.table.specs.Table.{marked, freshAt, tableVerdict, freshRow, tableRow, entryVerdict, entryAnswer};
 use edition::Edition;
 use edition::Entry;
 use edition::Memory;
+use edition::Refusal;
 use edition::Search;
 use edition::Swap;
 use edition::Verdict;
@@ -30,6 +32,12 @@ pub struct Side {
     pub climb: Climb,
     pub from: usize,
     pub reach: u64,
+}
+
+// The entry of one node, or why there is none.
+pub enum EntryAnswer {
+    Is(Entry),
+    Not(Refusal),
 }
 
 // The larger of two numbers.
@@ -316,11 +324,11 @@ fn costs_of(
     let z = side.from;
     let whole = rows::wide_at(bases, x) + product(rows::wide_at(count, x), k);
     let d = rows::wide_at(near, x);
-    let rest = k - rows::wide_at(near, z);
+    let farthest = side.reach + (k - rows::wide_at(near, z));
     Costs {
         sum: whole - rows::wide_at(turns, z),
         incr: k - 2 * d,
-        max: side.reach + rest,
+        max: farthest,
     }
 }
 
@@ -658,4 +666,38 @@ pub fn table(links: &[u16], parents: &[u16], search: Search, entries: &mut [u64]
 {
     let marks = [1u64; Memory::NODES];
     refresh(links, parents, search, &marks, entries)
+}
+
+// Whether a number has an entry: refusals 1 to 9, then 8 where it is no node.
+pub fn check_entry(links: &[u16], parents: &[u16], search: Search, x: usize) -> Verdict
+    ensures { λ r. ⌜ r ≡ entryVerdict (netOf (now (links .entry)) (now (parents .entry)) search) x ⌝ }
+{
+    let said = sound::verdict(links, parents, search);
+    let Verdict::Taken = said else {
+        return said;
+    };
+    rows::refuse_if(parents.len() <= x, Why::NoRoute, x)
+}
+
+// The entry of node x, by a run that works out no other.
+fn search_one(links: &[u16], parents: &[u16], search: Search, x: usize) -> Entry
+    requires { ⌜ (netVerdict (netOf (now links) (now parents) search) ≡ Taken) × (x < length (now parents)) ⌝ }
+    ensures { λ r. ⌜ r ≡ entry (netOf (now (links .entry)) (now (parents .entry)) search) x ⌝ }
+{
+    let mut marks = [0u64; Memory::NODES];
+    marks[x] = 1;
+    let mut entries = [0u64; Memory::NODES * Memory::ENTRY];
+    search_marked(links, parents, search, &marks, &mut entries);
+    get(&entries, x)
+}
+
+// The entry of node x.
+pub fn entry_of(links: &[u16], parents: &[u16], search: Search, x: usize) -> EntryAnswer
+    ensures { λ r. ⌜ r ≡ entryAnswer (netOf (now (links .entry)) (now (parents .entry)) search) x ⌝ }
+{
+    let said = check_entry(links, parents, search, x);
+    match said {
+        Verdict::Taken => EntryAnswer::Is(search_one(links, parents, search, x)),
+        Verdict::Refused(why) => EntryAnswer::Not(why),
+    }
 }

@@ -5,6 +5,7 @@ use Prim.Native.Nat.{ℕ, _+_, _*_, _^_}
 use lib.Dec.{eqb, ltb}
 use lib.ListN.{length, drop}
 use Rattle.edition.specs.declared.Verdict.{Verdict}
+use Rattle.edition.specs.declared.Verdict.the-variants.{Taken, Refused}
 use Rattle.edition.specs.declared.Why.the-variants.{NoRoom}
 use Rattle.edition.specs.Limits.{noNode, mapWords, wordBits}
 use Rattle.edition.specs.Refusals.{made}
@@ -14,6 +15,9 @@ use Rattle.rows.specs.First.{firstTo, foundOr, refuseIf, firstly}
 use Rattle.network.specs.Network.{Net}
 use Rattle.sound.specs.Sound.{netVerdict}
 use Rattle.swap.specs.Entry.{state}
+use Rattle.map.specs.declared.Unprotected.{Unprotected}
+use Rattle.map.specs.declared.MapAnswer.{MapAnswer}
+use Rattle.map.specs.declared.MapAnswer.the-variants.{Is, Not}
 
 -- Is x a node in state 2 or 3?
 unfoldable pub unprotected : Net → ℕ → Bool
@@ -35,9 +39,21 @@ ones g = sumTo (λ x. onlyIf (unprotected g x) 1) (g .nodes)
 unfoldable pub lowest : Net → ℕ
 lowest g = foundOr noNode (firstTo (unprotected g) (g .nodes))
 
+-- What is told of the map beside its words.
+unfoldable pub toldOf : Net → Unprotected
+toldOf g = record { count = ones g; lowest = lowest g }
+
 -- 1 to 9, then 10 where fewer than eight words are lent.
 unfoldable pub mapVerdict : Net → List ℕ → Verdict
 mapVerdict g row = firstly (netVerdict g ∷ refuseIf (ltb (length row) mapWords) NoRoom 0 ∷ [])
+
+-- What is told where the verdict is taken, else the refusal.
+abbrev pub mapIf : Verdict → Unprotected → MapAnswer
+mapIf Taken told = Is told
+mapIf (Refused r) told = Not r
+
+unfoldable pub mapAnswer : Net → List ℕ → MapAnswer
+mapAnswer g row = mapIf (mapVerdict g row) (toldOf g)
 
 -- What the lent row then holds: the map and what lay past it, or on a refusal what it held.
 unfoldable pub mapRow : Net → List ℕ → List ℕ

@@ -1,0 +1,71 @@
+// Op 3: the unprotected map.
+ghost use Prim.Native.Nat.{_≤_};
+ghost use lib.ListN.{length};
+use crate::output;
+use crate::tables;
+use edition::Memory;
+use edition::Search;
+use map::MapAnswer;
+use map::Unprotected;
+
+// Prints the words of the map, a space before each, and ends the line.
+fn put_words(out: &mut [u8], at: usize, row: &[u64]) -> usize
+    ensures { λ r. ⌜ r ≤ length (now (out .exit)) ⌝ }
+{
+    let mut waits = at;
+    let mut i = 0;
+    while i < Memory::WORDS {
+        let spaced = output::put_space(out, waits);
+        waits = output::put_number(out, spaced, rows::wide_at(row, i));
+        i += 1;
+    }
+    output::put_newline(out, waits)
+}
+
+// Prints what is told of the map, and its words.
+fn put_told(out: &mut [u8], at: usize, told: Unprotected, row: &[u64]) -> usize
+    ensures { λ r. ⌜ r ≤ length (now (out .exit)) ⌝ }
+{
+    let named = output::put(out, at, b" ok ");
+    let counted = output::put_number(out, named, told.count as u64);
+    let spaced = output::put_space(out, counted);
+    let lowest = output::put_number(out, spaced, told.lowest as u64);
+    put_words(out, lowest, row)
+}
+
+// Prints what a call for the map answered, and what it left in the row.
+fn put_map(said: MapAnswer, row: &[u64], out: &mut [u8], at: usize) -> usize
+    ensures { λ r. ⌜ r ≤ length (now (out .exit)) ⌝ }
+{
+    let named = output::put(out, at, b"map");
+    match said {
+        MapAnswer::Is(told) => {
+            let listed = put_told(out, named, told, row);
+            tables::put_rest(out, listed, row, Memory::WORDS)
+        }
+        MapAnswer::Not(refusal) => {
+            let listed = output::put_refusal(out, named, refusal);
+            tables::put_rest(out, listed, row, 0)
+        }
+    }
+}
+
+// Prints the map's answer and words, and whether the rest of the lent room is kept.
+pub fn map(
+    links: &[u16],
+    parents: &[u16],
+    search: Search,
+    row: &mut [u64],
+    room: usize,
+    out: &mut [u8],
+    at: usize,
+) -> usize
+    ensures { λ r. ⌜ r ≤ length (now (out .exit)) ⌝ }
+{
+    if row.len() < room {
+        return output::flush(out, at);
+    }
+    tables::fill(row);
+    let said = map::unprotected_map(links, parents, search, &mut row[0..room]);
+    put_map(said, &row[0..room], out, at)
+}

@@ -1,0 +1,32 @@
+-- The tree link is known by its number, and the depth is counted from x down: a link beside the tree link of x, with the same
+-- ends, is a candidate at every depth. Assumes nothing.
+use mathlib.Core.Path.{_≡_}
+use mathlib.Core.Bool.{true, false}
+use Prim.Native.Nat.{ℕ}
+use native.Mathlib.Omega.{arith}
+use lib.Dec.{eqb, leb}
+use borrow.Author.Tests.{le-leb}
+use Rattle.edition.specs.Limits.{wholeSearch}
+use Rattle.rows.proofs.Tests.{or-right}
+use Rattle.network.specs.declared.Link.{Link}
+use Rattle.network.specs.Network.{inService}
+use Rattle.tree.specs.Tree.{Tree, hops}
+use Rattle.tree.proofs.Ways.{Home, under-self, hops-cut}
+use Rattle.tree.proofs.Climbing.{below-not}
+use Rattle.swap.specs.Swap.{lower, crosses, within}
+
+module _ (t : Tree) (x : ℕ) (home : Home t x) where
+  -- x itself is 0 hops below x
+  pub own-within : (depth : ℕ) → within t depth x x ≡ true
+  unfolding within
+  own-within depth =
+      or-right (eqb depth wholeSearch) (leb (hops t x x) depth) (le-leb (hops t x x) depth (omega (arith, hops-cut t x x home (under-self t x home))))
+
+  module _ (far : eqb x (t .root) ≡ false) (e : ℕ) (l : Link) (up : inService l ≡ true) (other : eqb e (t .link x) ≡ false) (one : l .first ≡ x) (two : l .second ≡ t .up x) where
+    pub parallel-crosses : crosses t x e l ≡ true
+    unfolding crosses
+    parallel-crosses = rw (up, other, one, two, under-self t x home, below-not t x home far)
+
+    pub parallel-lower : lower t x l ≡ x
+    unfolding lower
+    parallel-lower = rw (one, under-self t x home)

@@ -1,0 +1,66 @@
+-- One node's entry: the run that marks it alone, and its answer. Assumes nothing.
+use mathlib.Core.Path.{_≡_, sym, _∙_}
+use mathlib.Core.Bool.{true}
+use mathlib.Core.List.{List}
+use Prim.Native.Nat.{ℕ, _*_, _<_, _≤_}
+use native.Mathlib.Omega.{arith}
+use lib.ListN.{length, set, replicate, length-replicate}
+use borrow.Author.Tests.{leb-false}
+use Rattle.edition.specs.declared.Verdict.{Verdict}
+use Rattle.edition.specs.declared.Verdict.the-variants.{Taken, Refused}
+use Rattle.edition.specs.declared.Refusal.{Refusal}
+use Rattle.edition.specs.declared.Entry.{Entry}
+use Rattle.edition.specs.Limits.{nodeLimit, entryWidth}
+use Rattle.network.specs.Network.{Net}
+use Rattle.sound.specs.Sound.{netVerdict}
+use Rattle.sound.proofs.Sounds.{sound}
+use Rattle.sound.proofs.Holding.{nodes-few}
+use Rattle.swap.specs.Entry.{entry}
+use Rattle.table.specs.Table.{marked, freshAt, entryVerdict, entryAnswer}
+use Rattle.table.specs.declared.EntryAnswer.the-variants.{Is, Not}
+use Rattle.table.specs.Work.{Entries, entryAt}
+use Rattle.rows.proofs.Refusing.{head-taken, rest-taken, if-taken}
+use Rattle.edition.specs.declared.Why.the-variants.{NoRoute}
+use lib.Seq.{getD-set-same}
+use Rattle.table.proofs.Slots.{entry-known}
+
+-- the row of marks with x alone
+abbrev pub onlyMark : ℕ → List ℕ
+onlyMark x = set (replicate nodeLimit 0) x 1
+
+-- the row that the run is lent
+abbrev pub bareRow : List ℕ
+bareRow = replicate (nodeLimit * entryWidth) 0
+
+pub bare-room : (n : ℕ) → n ≤ nodeLimit → n * entryWidth ≤ length bareRow
+bare-room n l = omega (arith, length-replicate {A = ℕ} (nodeLimit * entryWidth) 0)
+
+mark-set : (x : ℕ) → x < nodeLimit → marked (onlyMark x) x ≡ true
+unfolding marked
+mark-set x l =
+    rw (getD-set-same {A = ℕ} (replicate nodeLimit 0) x 1 0 (omega (arith, l, length-replicate {A = ℕ} nodeLimit 0)))
+
+module _ (g : Net) (x : ℕ) where
+  -- what the run leaves at x
+  pub one-known : x < g .nodes → netVerdict g ≡ Taken → (row : List ℕ) → Entries (g .nodes) (freshAt g (onlyMark x) bareRow) bareRow row → (e : Entry) → e ≡ entryAt row x → e ≡ entry g x
+  unfolding freshAt
+  one-known l ok row h e q =
+      q ∙ entry-known (g .nodes) (freshAt g (onlyMark x) bareRow) bareRow row x (entry g x) h l (rw (mark-set x (omega (arith, l, nodes-few g (sound g ok)))))
+
+  module _ (v : Verdict) (q : v ≡ entryVerdict g x) where
+    pub one-sound : v ≡ Taken → netVerdict g ≡ Taken
+    unfolding entryVerdict
+    one-sound t = head-taken _ _ (sym q ∙ t)
+
+    pub one-node : v ≡ Taken → x < g .nodes
+    unfolding entryVerdict
+    one-node t =
+        leb-false (g .nodes) x (if-taken _ NoRoute x (head-taken _ _ (rest-taken _ _ (sym q ∙ t))))
+
+    pub one-is : v ≡ Taken → (e : Entry) → e ≡ entry g x → Is e ≡ entryAnswer g x
+    unfolding entryAnswer
+    one-is t e p = rw (← q, t, p)
+
+    pub one-not : (r : Refusal) → v ≡ Refused r → Not r ≡ entryAnswer g x
+    unfolding entryAnswer
+    one-not r t = rw (← q, t)

@@ -1,0 +1,46 @@
+-- `table::search_one` meets its contract. Assumes nothing.
+use Rattle.network.specs.Network.{netOf}
+use Rattle.table.proofs.Counts.{small}
+use Rattle.table.proofs.Single.{bare-room, one-known}
+use native.Mathlib.Omega.{arith}
+use borrow.Author.Needs.{needs}
+use Rattle.table.proofs.search_one.Statement.{statement}
+use Rattle.table.proofs.search_one.Tie as tie
+
+mul-marks : tie.Need-mul-marks
+mul-marks c = omega (arith, c .before .before .pre .1, small _ _ _ (c .before .before .pre .0) (λ i. omega (arith, c .before .shared-slice-known .given i)))
+
+array-write-marks : tie.Need-array-write-marks
+array-write-marks c = omega (arith, c .before .before .pre .1, small _ _ _ (c .before .before .pre .0) (λ i. omega (arith, c .before .shared-slice-known .given i)))
+
+slice-aggregate-search-marked : tie.Need-slice-aggregate-search-marked
+slice-aggregate-search-marked c = search needs
+
+slice-aggregate-search-marked-2 : tie.Need-slice-aggregate-search-marked-2
+slice-aggregate-search-marked-2 c = search needs
+
+search-marked-requires : tie.Need-search-marked-requires
+search-marked-requires c κs = (c .before .before .before .before .pre .0, bare-room _ (small _ _ _ (c .before .before .before .before .pre .0) (λ i. omega (arith, c .before .before .before .shared-slice-known .given i))))
+
+slice-aggregate-get : tie.Need-slice-aggregate-get
+slice-aggregate-get c = search needs
+
+get-requires : tie.Need-get-requires
+get-requires c κs = omega (arith, c .before .before .before .before .before .before .before .pre .1, small _ _ _ (c .before .before .before .before .before .before .before .pre .0) (λ i. omega (arith, c .before .before .before .before .before .before .shared-slice-known .given i)))
+
+returns : tie.Need-returns
+unfolding netOf
+returns c = one-known _ _ (c .before .before .before .before .before .before .before .before .pre .1) (c .before .before .before .before .before .before .before .before .pre .0) _ (c .before .before .before .search-marked .ensures) _ (c .get .ensures)
+
+pub search-one-spec : {M : Type 1} → statement M
+search-one-spec =
+    tie.close
+    (tie.spec
+    mul-marks
+    array-write-marks
+    slice-aggregate-search-marked
+    slice-aggregate-search-marked-2
+    search-marked-requires
+    slice-aggregate-get
+    get-requires
+    returns)
