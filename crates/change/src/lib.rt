@@ -1,1 +1,153 @@
-// The change of one link. The definitions stand in specs/.
+// The change of one link outside the tree: its verdict, its application, and one after the other.
+ghost use mathlib.Core.Path.{_≡_};
+ghost use Prim.Native.Nat.{_<_, _≤_};
+ghost use lib.ListN.{length};
+ghost use Rattle.edition.specs.Limits.{nodeLimit};
+ghost use Rattle.edition.specs.declared.Verdict.the-variants.{Taken};
+ghost use Rattle.network.specs.Network.{netOf, linksIn};
+ghost use Rattle.tree.specs.Tree.{treeOf, under};
+ghost use Rattle.sound.specs.Sound.{netVerdict};
+ghost use Rattle.table.specs.Work.{Moved};
+ghost use Rattle.change.specs.Change.{breaks, changeVerdict, setLink, mended, changed};
+ghost use Rattle.change.specs.Work.{flip, flippedAt, names};
+use edition::Change;
+use edition::Edition;
+use edition::Memory;
+use edition::Search;
+use edition::Verdict;
+use edition::Why;
+
+// Whether link e is some node's parent link.
+fn is_parent(parents: &[u16], e: usize) -> bool
+    ensures { λ r. ⌜ r ≡ names (now (parents .entry)) e ⌝ }
+{
+    let mut u = 0;
+    while u < parents.len() {
+        if network::parent_of(parents, u) as usize == e {
+            return true;
+        }
+        u += 1;
+    }
+    false
+}
+
+// Whether the change sets a link in service whose new length breaks shortness.
+fn breaks_short(links: &[u16], parents: &[u16], search: Search, change: Change) -> bool
+    requires { ⌜ (netVerdict (netOf (now links) (now parents) search) ≡ Taken) × (change .link < linksIn (now links)) ⌝ }
+    ensures { λ r. ⌜ r ≡ breaks (netOf (now (links .entry)) (now (parents .entry)) search) change ⌝ }
+{
+    if change.mark != Edition::SERVED {
+        return false;
+    }
+    let mut row = [0u64; Memory::NODES];
+    tree::distances(links, parents, search, &mut row);
+    let l = network::link_at(links, change.link as usize);
+    let p = rows::wide_at(&row, l.first as usize);
+    let q = rows::wide_at(&row, l.second as usize);
+    !sound::keeps_short(p, q, change.length)
+}
+
+// Whether a change is taken: 1 to 10, 11, 6 with the changed link as its place, 12, 13. Nothing is written.
+pub fn check_change(
+    links: &[u16],
+    parents: &[u16],
+    search: Search,
+    entries: &[u64],
+    change: Change,
+) -> Verdict
+    ensures { λ r. ⌜ r ≡ changeVerdict (netOf (now (links .entry)) (now (parents .entry)) search) (now (entries .entry)) change ⌝ }
+{
+    let e = change.link as usize;
+    let table = table::check_table(links, parents, search, entries);
+    let Verdict::Taken = table else {
+        return table;
+    };
+    let there = rows::refuse_if(network::links_in(links) <= e, Why::LinkMissing, 0);
+    let Verdict::Taken = there else {
+        return there;
+    };
+    let marked = rows::refuse_if(network::bad_mark(change.mark), Why::BadMark, e);
+    let Verdict::Taken = marked else {
+        return marked;
+    };
+    let spare = rows::refuse_if(is_parent(parents, e), Why::TreeLink, e);
+    let Verdict::Taken = spare else {
+        return spare;
+    };
+    rows::refuse_if(
+        breaks_short(links, parents, search, change),
+        Why::BreaksShort,
+        e,
+    )
+}
+
+// The other of 0 and 1.
+fn other_mark(mark: u64) -> u64
+    ensures { λ r. ⌜ r ≡ flip mark ⌝ }
+{
+    if mark == 0 { 1 } else { 0 }
+}
+
+// The mark of node c becomes the other one.
+fn flip_at(marks: &mut [u64], c: usize)
+    requires { ⌜ c < length (now marks) ⌝ }
+    ensures { λ _. ⌜ now (marks .exit) ≡ flippedAt c (now (marks .entry)) ⌝ }
+{
+    marks[c] = other_mark(marks[c]);
+}
+
+// The marks of the nodes on the route of u become the other ones.
+fn flip_up(links: &[u16], parents: &[u16], search: Search, marks: &mut [u64], u: usize)
+    requires { ⌜ (netVerdict (netOf (now links) (now parents) search) ≡ Taken) × (u < length (now parents)) × (length (now parents) ≤ length (now marks)) ⌝ }
+    ensures { λ _. ⌜ Moved (λ x. under (treeOf (netOf (now (links .entry)) (now (parents .entry)) search)) x u) flip (now (marks .entry)) (now (marks .exit)) ⌝ }
+{
+    let mut c = u;
+    while c != search.root as usize {
+        flip_at(marks, c);
+        c = tree::up(links, parents, search, c);
+    }
+    flip_at(marks, c);
+}
+
+// Stores a length and a service mark in the record of link e.
+fn set_link(links: &mut [u16], e: usize, length: u16, mark: u16)
+    requires { ⌜ e < linksIn (now links) ⌝ }
+    ensures { λ _. ⌜ now (links .exit) ≡ setLink (now (links .entry)) (record { link = e; mark = mark; length = length }) ⌝ }
+{
+    let at = e * Memory::LINK;
+    links[at + 2] = length;
+    links[at + 3] = mark;
+}
+
+// Makes a change that is taken: the record, and afresh the entries of the nodes whose tree link lies on the tree path between the
+// link's ends.
+fn apply(links: &mut [u16], parents: &[u16], search: Search, entries: &mut [u64], change: Change)
+    requires { ⌜ changeVerdict (netOf (now links) (now parents) search) (now entries) change ≡ Taken ⌝ }
+    ensures { λ _. ⌜ (now (links .exit) ≡ setLink (now (links .entry)) change) × (now (entries .exit) ≡ mended (netOf (now (links .entry)) (now (parents .entry)) search) (netOf (setLink (now (links .entry)) change) (now (parents .entry)) search) (change .link) (now (entries .entry))) ⌝ }
+{
+    let l = network::link_at(links, change.link as usize);
+    let mut marks = [0u64; Memory::NODES];
+    flip_up(links, parents, search, &mut marks, l.first as usize);
+    flip_up(links, parents, search, &mut marks, l.second as usize);
+    set_link(links, change.link as usize, change.length, change.mark);
+    table::refresh(links, parents, search, &marks, entries);
+}
+
+// The change of one link. Refused, it changes nothing lent. Taken, it changes that link's record alone, and the table that was
+// right is right again.
+pub fn change(
+    links: &mut [u16],
+    parents: &[u16],
+    search: Search,
+    entries: &mut [u64],
+    change: Change,
+) -> Verdict
+    ensures { λ r. ⌜ (r ≡ changeVerdict (netOf (now (links .entry)) (now (parents .entry)) search) (now (entries .entry)) change) × (now (links .exit) ≡ changed (now (parents .entry)) search change (record { links = now (links .entry); entries = now (entries .entry) }) .links) × (now (entries .exit) ≡ changed (now (parents .entry)) search change (record { links = now (links .entry); entries = now (entries .entry) }) .entries) ⌝ }
+{
+    let said = check_change(links, parents, search, entries, change);
+    let Verdict::Taken = said else {
+        return said;
+    };
+    apply(links, parents, search, entries, change);
+    Verdict::Taken
+}

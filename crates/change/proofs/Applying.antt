@@ -1,0 +1,166 @@
+-- The verdict of a change as a chain of checks, and what its application leaves. Assumes nothing.
+use mathlib.Core.Path.{_≡_, refl, sym, ap, _∙_}
+use mathlib.Core.Bool.{Bool}
+use mathlib.Core.List.{List, _++_}
+use Prim.Native.Nat.{ℕ, _*_, _<_, _≤_}
+use native.Mathlib.Omega.{arith}
+use lib.Dec.{leb}
+use lib.ListN.{length, drop, replicate, length-replicate}
+use borrow.Author.Tests.{leb-false, le-ltb}
+use Rattle.edition.specs.declared.Change.{Change}
+use Rattle.edition.specs.declared.Refusal.{Refusal}
+use Rattle.edition.specs.declared.Search.{Search}
+use Rattle.edition.specs.declared.Verdict.{Verdict}
+use Rattle.edition.specs.declared.Verdict.the-variants.{Taken, Refused}
+use Rattle.edition.specs.declared.Why.the-variants.{NoRoom, LinkMissing, BadMark, TreeLink, BreaksShort}
+use Rattle.edition.specs.Limits.{nodeLimit, entryWidth}
+use Rattle.rows.specs.Count.{rowsTo}
+use Rattle.rows.specs.First.{refuseIf}
+use Rattle.rows.specs.Lists.{differ}
+use Rattle.rows.proofs.Records.{rows-cong}
+use Rattle.rows.proofs.Refusing.{head-taken, head-refuses, head-passes, both-taken, none-left, if-taken, if-passes, only-one}
+use Rattle.network.specs.declared.Link.{Link}
+use Rattle.network.specs.Network.{linksIn, linkIn, netOf}
+use Rattle.network.specs.Records.{badMark}
+use Rattle.tree.specs.Tree.{treeOf, under}
+use Rattle.sound.specs.Sound.{netVerdict}
+use Rattle.sound.proofs.Sounds.{taken}
+use Rattle.sound.proofs.Holding.{nodes-few, first-in, second-in, link-path}
+use Rattle.table.specs.Table.{marked, freshAt, freshRow, tableVerdict, entriesIn}
+use Rattle.table.specs.Work.{Moved}
+use Rattle.table.proofs.Whole.{table-room}
+use Rattle.change.specs.Change.{isParent, breaks, changeVerdict, setLink, mended, changed}
+use Rattle.change.specs.Work.{flip, names}
+use Rattle.change.proofs.Staying.{Allowed, allowed, still-sound}
+use Rattle.change.proofs.Mending.{onWay, madeAt, mended-rows}
+use Rattle.change.proofs.Flipping.{turned-twice}
+
+-- the order of the checks
+module _ (links parents : List ℕ) (search : Search) (entries : List ℕ) (c : Change) (v : Verdict) (is : v ≡ tableVerdict (netOf links parents search) entries) where
+  pub first-refuses : (r : Refusal) → v ≡ Refused r → v ≡ changeVerdict (netOf links parents search) entries c
+  unfolding changeVerdict
+  first-refuses r t = t ∙ sym (head-refuses _ _ r (sym is ∙ t))
+
+  module _ (ok : v ≡ Taken) (m : ℕ) (count : m ≡ linksIn links) (w : Verdict) (wis : w ≡ refuseIf (leb m (c .link)) LinkMissing 0) where
+    second : w ≡ refuseIf (leb (netOf links parents search .links) (c .link)) LinkMissing 0
+    unfolding netOf
+    second = wis ∙ ap (λ k. refuseIf (leb k (c .link)) LinkMissing 0) count
+
+    pub second-refuses : (r : Refusal) → w ≡ Refused r → w ≡ changeVerdict (netOf links parents search) entries c
+    unfolding changeVerdict
+    second-refuses r t = t ∙ sym (head-passes _ _ (sym is ∙ ok) ∙ head-refuses _ _ r (sym second ∙ t))
+
+    module _ (there : w ≡ Taken) (b : Bool) (mark : b ≡ badMark (c .mark)) (x : Verdict) (xis : x ≡ refuseIf b BadMark (c .link)) where
+      third : x ≡ refuseIf (badMark (c .mark)) BadMark (c .link)
+      third = xis ∙ ap (λ k. refuseIf k BadMark (c .link)) mark
+
+      pub third-refuses : (r : Refusal) → x ≡ Refused r → x ≡ changeVerdict (netOf links parents search) entries c
+      unfolding changeVerdict
+      third-refuses r t =
+          t ∙ sym (head-passes _ _ (sym is ∙ ok) ∙ (head-passes _ _ (sym second ∙ there) ∙ head-refuses _ _ r (sym third ∙ t)))
+
+      pub link-there : c .link < linksIn links
+      link-there = leb-false (linksIn links) (c .link) (if-taken _ LinkMissing 0 (ap (λ k. refuseIf (leb k (c .link)) LinkMissing 0) (sym count) ∙ (sym wis ∙ there)))
+
+      module _ (serves : x ≡ Taken) (p : Bool) (named : p ≡ names parents (c .link)) (y : Verdict) (yis : y ≡ refuseIf p TreeLink (c .link)) where
+        fourth : y ≡ refuseIf (isParent (netOf links parents search) (c .link)) TreeLink (c .link)
+        unfolding isParent names netOf
+        fourth = yis ∙ ap (λ k. refuseIf k TreeLink (c .link)) named
+
+        pub fourth-refuses : (r : Refusal) → y ≡ Refused r → y ≡ changeVerdict (netOf links parents search) entries c
+        unfolding changeVerdict
+        fourth-refuses r t =
+            t
+            ∙ sym
+            (head-passes _ _ (sym is ∙ ok)
+            ∙ (head-passes _ _ (sym second ∙ there) ∙ (head-passes _ _ (sym third ∙ serves) ∙ head-refuses _ _ r (sym fourth ∙ t))))
+
+        pub fifth-decides : y ≡ Taken → (s : Bool) → s ≡ breaks (netOf links parents search) c → (z : Verdict) → z ≡ refuseIf s BreaksShort (c .link) → z ≡ changeVerdict (netOf links parents search) entries c
+        unfolding changeVerdict
+        fifth-decides spare s short z zis =
+            zis
+            ∙ (ap (λ k. refuseIf k BreaksShort (c .link)) short
+            ∙ sym
+            (head-passes _ _ (sym is ∙ ok)
+            ∙ (head-passes _ _ (sym second ∙ there)
+            ∙ (head-passes _ _ (sym third ∙ serves) ∙ (head-passes _ _ (sym fourth ∙ spare) ∙ only-one _)))))
+
+-- the application of a change that is taken
+module _ (links parents : List ℕ) (search : Search) (entries : List ℕ) (c : Change) (t : changeVerdict (netOf links parents search) entries c ≡ Taken) where
+  a : Allowed (netOf links parents search) c
+  a = allowed (netOf links parents search) entries c t
+
+  table-taken : tableVerdict (netOf links parents search) entries ≡ Taken
+  unfolding changeVerdict
+  table-taken = head-taken _ _ t
+
+  pub apply-sound : netVerdict (netOf links parents search) ≡ Taken
+  apply-sound = taken (netOf links parents search) (a .before)
+
+  pub apply-there : c .link < linksIn links
+  unfolding netOf
+  apply-there = a .there
+
+  few : length parents ≤ nodeLimit
+  unfolding netOf
+  few = nodes-few (netOf links parents search) (a .before)
+
+  pub marks-room : length parents ≤ length (replicate {A = ℕ} nodeLimit 0)
+  marks-room = omega (arith, few, length-replicate {A = ℕ} nodeLimit 0)
+
+  module _ (l : Link) (is : l ≡ linkIn links (c .link)) where
+    pub first-node : l .first < length parents
+    unfolding netOf
+    first-node = rw is (first-in (netOf links parents search) (a .before) (c .link) (a .there))
+
+    pub second-node : l .second < length parents
+    unfolding netOf
+    second-node = rw is (second-in (netOf links parents search) (a .before) (c .link) (a .there))
+
+    module _ (one : List ℕ) (climb : Moved (λ x. under (treeOf (netOf links parents search)) x (l .first)) flip (replicate {A = ℕ} nodeLimit 0) one) where
+      pub marks-still : length parents ≤ length one
+      marks-still = omega (arith, marks-room, climb .size)
+
+      module _ (marks : List ℕ) (other : Moved (λ x. under (treeOf (netOf links parents search)) x (l .second)) flip one marks) where
+        marked-is : (x : ℕ) → x < length parents → marked marks x ≡ onWay links parents search c a x
+        unfolding onWay netOf
+        marked-is x m =
+            turned-twice _ _ one marks climb other x (omega (arith, m, few))
+            ∙ (ap (λ (k : Link). differ (under (treeOf (netOf links parents search)) x (k .first)) (under (treeOf (netOf links parents search)) x (k .second))) is
+            ∙ sym (link-path (netOf links parents search) (a .before) (c .link) x (a .there)))
+
+        fresh-taken : tableVerdict (netOf (setLink links c) parents search) entries ≡ Taken
+        unfolding tableVerdict netOf
+        fresh-taken =
+            both-taken _ _ (taken (netOf (setLink links c) parents search) (still-sound links parents search c a))
+            (both-taken _ _ (if-passes _ NoRoom 0 (le-ltb (entriesIn entries) (length parents) room)) none-left)
+          where
+            room : length parents ≤ entriesIn entries
+            room = omega (arith, table-room (netOf links parents search) entries Taken (sym table-taken) refl)
+
+        made-same : (x : ℕ) → marked marks x ≡ onWay links parents search c a x → freshAt (netOf (setLink links c) parents search) marks entries x ≡ madeAt links parents search c a entries x
+        unfolding freshAt madeAt
+        made-same x w = rw w
+
+        fresh-rows : freshRow (netOf (setLink links c) parents search) marks entries ≡ rowsTo (freshAt (netOf (setLink links c) parents search) marks entries) (length parents) ++ drop (length parents * entryWidth) entries
+        unfolding freshRow netOf
+        fresh-rows = rw fresh-taken
+
+        pub apply-is : (links′ : List ℕ) → links′ ≡ setLink links c → (entries′ : List ℕ) → entries′ ≡ freshRow (netOf links′ parents search) marks entries → (links′ ≡ setLink links c) × (entries′ ≡ mended (netOf links parents search) (netOf (setLink links c) parents search) (c .link) entries)
+        apply-is links′ q entries′ e = (q, e ∙ (ap (λ (k : List ℕ). freshRow (netOf k parents search) marks entries) q ∙ (fresh-is ∙ sym (mended-rows links parents search c a entries))))
+          where
+            same : (x : ℕ) → x < length parents → freshAt (netOf (setLink links c) parents search) marks entries x ≡ madeAt links parents search c a entries x
+            same x m = made-same x (marked-is x m)
+
+            fresh-is : freshRow (netOf (setLink links c) parents search) marks entries ≡ rowsTo (madeAt links parents search c a entries) (length parents) ++ drop (length parents * entryWidth) entries
+            fresh-is = fresh-rows ∙ ap (λ (r : List ℕ). r ++ drop (length parents * entryWidth) entries) (rows-cong _ _ (length parents) same)
+
+-- the change, one after the other
+module _ (links parents : List ℕ) (search : Search) (entries : List ℕ) (c : Change) (v : Verdict) (is : v ≡ changeVerdict (netOf links parents search) entries c) where
+  pub change-refused : (r : Refusal) → v ≡ Refused r → (v ≡ changeVerdict (netOf links parents search) entries c) × (links ≡ changed parents search c (record { links = links; entries = entries }) .links) × (entries ≡ changed parents search c (record { links = links; entries = entries }) .entries)
+  unfolding changed
+  change-refused r t = (is, rw (← is, t), rw (← is, t))
+
+  pub change-taken : v ≡ Taken → (links′ entries′ : List ℕ) → links′ ≡ setLink links c → entries′ ≡ mended (netOf links parents search) (netOf (setLink links c) parents search) (c .link) entries → (Taken ≡ changeVerdict (netOf links parents search) entries c) × (links′ ≡ changed parents search c (record { links = links; entries = entries }) .links) × (entries′ ≡ changed parents search c (record { links = links; entries = entries }) .entries)
+  unfolding changed
+  change-taken t links′ entries′ p q = (sym t ∙ is, rw (← is, t) p, rw (← is, t) q)

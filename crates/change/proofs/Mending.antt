@@ -1,0 +1,160 @@
+-- Demand 3 for one change: entries off the path are what they were, those on it are worked out afresh, and a table that was right
+-- is right. Assumes nothing.
+use mathlib.Core.Path.{_≡_, refl, sym, subst, ap, ap₂, _∙_}
+use mathlib.Core.Bool.{Bool, true, false, cond, not, _&&_}
+use mathlib.Core.List.{List, _++_}
+use Prim.Native.Nat.{ℕ, _*_, _<_, _≤_}
+use native.Mathlib.Omega.{arith}
+use lib.Dec.{eqb, ltb}
+use lib.ListN.{length, take, drop, replicate, length-replicate, length-drop}
+use lib.Seq.{drop-at, length-take-le}
+use borrow.Author.Tests.{eqb-true, ltb-true, lt-ltb}
+use Rattle.edition.specs.declared.Change.{Change}
+use Rattle.edition.specs.declared.Search.{Search}
+use Rattle.edition.specs.Limits.{entryWidth}
+use Rattle.edition.specs.Entries.{entryRow}
+use Rattle.rows.specs.Count.{rowsTo}
+use Rattle.rows.specs.Lists.{differ}
+use Rattle.rows.proofs.Records.{rows-cong, rows-length, rows-at}
+use Rattle.network.specs.declared.Link.{Link}
+use Rattle.network.specs.Network.{Net, linksIn, linkIn, netOf, inService}
+use Rattle.tree.specs.Tree.{Tree, treeOf, under, onPath}
+use Rattle.sound.proofs.Holding.{link-path}
+use Rattle.swap.specs.Swap.{crosses}
+use Rattle.swap.specs.Entry.{entry}
+use Rattle.table.specs.Table.{table, standing}
+use Rattle.change.specs.Change.{setLink, mendedAt, mended}
+use Rattle.change.proofs.Alike.{Alike, same, neither, SameFor, entry-same}
+use Rattle.change.proofs.Setting.{count-same, link-other, link-set}
+use Rattle.change.proofs.Staying.{Allowed, kept-tree}
+
+and-false : (a : Bool) → (a && false) ≡ false
+and-false true = refl
+and-false false = refl
+
+-- a link that has both ends in T(x), or neither, does not cross x, whatever its length and mark
+no-cross : (t : Tree) (x k : ℕ) (l : Link) → differ (under t x (l .first)) (under t x (l .second)) ≡ false → crosses t x k l ≡ false
+unfolding crosses
+no-cross t x k l h = rw h (and-false (inService l && not (eqb k (t .link x))))
+
+-- the record of x in a row of records whose width is known for the first n alone
+pub record-at : (n : ℕ) (f : ℕ → List ℕ) (more : List ℕ) → ((x : ℕ) → x < n → length (f x) ≡ entryWidth) → (x : ℕ) → x < n → standing (rowsTo f n ++ more) x ≡ f x
+unfolding standing
+record-at n f more sized x l =
+    ap (λ (r : List ℕ). take entryWidth (drop (x * entryWidth) (r ++ more))) (sym (rows-cong wide f n wide-in))
+    ∙ (rows-at wide entryWidth wide-size n more x l ∙ wide-in x l)
+  where
+    wide : ℕ → List ℕ
+    wide y = cond (ltb y n) (f y) (replicate entryWidth 0)
+
+    wide-in : (y : ℕ) → y < n → wide y ≡ f y
+    wide-in y m = rw (lt-ltb y n m)
+
+    wide-size : (y : ℕ) → length (wide y) ≡ entryWidth
+    wide-size y = go (ltb y n) refl
+      where
+        go : (b : Bool) → ltb y n ≡ b → length (wide y) ≡ entryWidth
+        go true q = rw q (sized y (ltb-true y n q))
+        go false q = rw q (length-replicate {A = ℕ} entryWidth 0)
+
+row-size : (g : Net) (x : ℕ) → length (entryRow (entry g x)) ≡ entryWidth
+unfolding entryRow
+row-size g x = refl
+
+standing-size : (n : ℕ) (entries : List ℕ) → n * entryWidth ≤ length entries → (x : ℕ) → x < n → length (standing entries x) ≡ entryWidth
+unfolding standing
+standing-size n entries room x l =
+    length-take-le entryWidth (drop (x * entryWidth) entries) (omega (arith, length-drop (x * entryWidth) entries, l, room))
+
+module _ (links parents : List ℕ) (search : Search) (c : Change) (a : Allowed (netOf links parents search) c) where
+  -- does the tree link of x lie on the path between the ends of the changed link?
+  unfoldable pub onWay : ℕ → Bool
+  onWay x = onPath (treeOf (netOf links parents search)) (linkIn links (c .link) .first) (linkIn links (c .link) .second) x
+
+  there : c .link < linksIn links
+  unfolding netOf
+  there = a .there
+
+  off-differs : (x : ℕ) → onWay x ≡ false → differ (under (treeOf (netOf links parents search)) x (linkIn links (c .link) .first)) (under (treeOf (netOf links parents search)) x (linkIn links (c .link) .second)) ≡ false
+  unfolding netOf onWay
+  off-differs x h = sym (link-path (netOf links parents search) (a .before) (c .link) x (a .there)) ∙ h
+
+  off-alike : (x : ℕ) → onWay x ≡ false → SameFor x (netOf links parents search) (netOf (setLink links c) parents search)
+  unfolding netOf
+  off-alike x h =
+      record {
+        tree = kept-tree links parents search c a;
+        count = count-same links c;
+        search = refl;
+        link = λ k. go k (eqb k (c .link)) refl;
+      }
+    where
+      old : crosses (treeOf (netOf links parents search)) x (c .link) (linkIn links (c .link)) ≡ false
+      old = no-cross _ x (c .link) (linkIn links (c .link)) (off-differs x h)
+
+      new : crosses (treeOf (netOf (setLink links c) parents search)) x (c .link) (linkIn (setLink links c) (c .link)) ≡ false
+      new =
+          subst (λ (t : Tree). crosses t x (c .link) (linkIn (setLink links c) (c .link)) ≡ false) (sym (kept-tree links parents search c a))
+          (subst (λ (l : Link). crosses (treeOf (netOf links parents search)) x (c .link) l ≡ false) (sym (link-set links c there))
+          (no-cross _ x (c .link) (record { first = linkIn links (c .link) .first; second = linkIn links (c .link) .second; length = c .length; mark = c .mark }) (off-differs x h)))
+
+      go : (k : ℕ) (b : Bool) → eqb k (c .link) ≡ b → Alike x (netOf links parents search) (netOf (setLink links c) parents search) k
+      go k false q = same (link-other links c k q)
+      go k true q =
+          subst (λ j. Alike x (netOf links parents search) (netOf (setLink links c) parents search) j) (sym (eqb-true k (c .link) q))
+          (neither new old)
+
+  -- each entry off the path is what it was
+  pub entry-kept : (x : ℕ) → onWay x ≡ false → entry (netOf (setLink links c) parents search) x ≡ entry (netOf links parents search) x
+  entry-kept x h = entry-same x (netOf links parents search) (netOf (setLink links c) parents search) (off-alike x h)
+
+  -- what a change makes of each record, whatever the lent table held
+  unfoldable pub madeAt : List ℕ → ℕ → List ℕ
+  madeAt entries x = cond (onWay x) (entryRow (entry (netOf (setLink links c) parents search) x)) (standing entries x)
+
+  pub mended-rows : (entries : List ℕ) → mended (netOf links parents search) (netOf (setLink links c) parents search) (c .link) entries ≡ rowsTo (madeAt entries) (length parents) ++ drop (length parents * entryWidth) entries
+  unfolding mended mendedAt netOf madeAt onWay
+  mended-rows entries = refl
+
+  module _ (entries : List ℕ) (room : length parents * entryWidth ≤ length entries) where
+    made-size : (x : ℕ) → x < length parents → length (madeAt entries x) ≡ entryWidth
+    unfolding madeAt
+    made-size x l = go (onWay x) refl
+      where
+        go : (b : Bool) → onWay x ≡ b → length (madeAt entries x) ≡ entryWidth
+        go true h = rw h (row-size (netOf (setLink links c) parents search) x)
+        go false h = rw h (standing-size (length parents) entries room x l)
+
+    pub mended-at : (x : ℕ) → x < length parents → standing (mended (netOf links parents search) (netOf (setLink links c) parents search) (c .link) entries) x ≡ madeAt entries x
+    mended-at x l =
+        ap (λ (r : List ℕ). standing r x) (mended-rows entries)
+        ∙ record-at (length parents) (madeAt entries) (drop (length parents * entryWidth) entries) made-size x l
+
+    -- each entry on the path is the fresh one, also where the lent table was wrong
+    pub on-path-fresh : (x : ℕ) → x < length parents → onWay x ≡ true → standing (mended (netOf links parents search) (netOf (setLink links c) parents search) (c .link) entries) x ≡ entryRow (entry (netOf (setLink links c) parents search) x)
+    unfolding madeAt
+    on-path-fresh x l h = mended-at x l ∙ rw h
+
+    -- each entry off the path stands as it stood
+    pub off-path-kept : (x : ℕ) → x < length parents → onWay x ≡ false → standing (mended (netOf links parents search) (netOf (setLink links c) parents search) (c .link) entries) x ≡ standing entries x
+    unfolding madeAt
+    off-path-kept x l h = mended-at x l ∙ rw h
+
+  -- a right table is right after the change, and what lay past it stays
+  pub mended-right : (rest : List ℕ) → mended (netOf links parents search) (netOf (setLink links c) parents search) (c .link) (table (netOf links parents search) ++ rest) ≡ table (netOf (setLink links c) parents search) ++ rest
+  unfolding table netOf madeAt
+  mended-right rest =
+      mended-rows (table (netOf links parents search) ++ rest)
+      ∙ ap₂ (λ (r s : List ℕ). r ++ s) (rows-cong _ _ (length parents) (λ x l. go x l (onWay x) refl)) past
+    where
+      past : drop (length parents * entryWidth) (table (netOf links parents search) ++ rest) ≡ rest
+      past =
+          drop-at (table (netOf links parents search)) rest (length parents * entryWidth)
+          (rows-length (λ x. entryRow (entry (netOf links parents search) x)) entryWidth (row-size (netOf links parents search)) (length parents))
+
+      go : (x : ℕ) → x < length parents → (b : Bool) → onWay x ≡ b → madeAt (table (netOf links parents search) ++ rest) x ≡ entryRow (entry (netOf (setLink links c) parents search) x)
+      go x l true h = rw h
+      go x l false h =
+          rw h
+          (record-at (length parents) (λ y. entryRow (entry (netOf links parents search) y)) rest (λ y m. row-size (netOf links parents search) y) x l
+          ∙ ap entryRow (sym (entry-kept x h)))
