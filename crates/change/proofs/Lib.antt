@@ -3,6 +3,7 @@ pub mod Applying
 pub mod Checking
 pub mod Flipping
 pub mod Mending
+pub mod Orders
 pub mod Series
 pub mod Setting
 pub mod Staying

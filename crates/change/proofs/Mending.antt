@@ -117,7 +117,7 @@ module _ (links parents : List ℕ) (search : Search) (c : Change) (a : Allowed 
   mended-rows entries = refl
 
   module _ (entries : List ℕ) (room : length parents * entryWidth ≤ length entries) where
-    made-size : (x : ℕ) → x < length parents → length (madeAt entries x) ≡ entryWidth
+    pub made-size : (x : ℕ) → x < length parents → length (madeAt entries x) ≡ entryWidth
     unfolding madeAt
     made-size x l = go (onWay x) refl
       where
