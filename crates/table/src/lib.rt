@@ -221,24 +221,24 @@ fn fill_asides(links: &[u16], parents: &[u16], search: Search, deep: &[u64], out
 
 // The entry of node x in a row of entries.
 fn get(entries: &[u64], x: usize) -> Entry
-    requires { ⌜ x < nodeLimit ⌝ }
+    requires { ⌜ (x < nodeLimit) × (x * entryWidth + entryWidth ≤ length (now entries)) ⌝ }
     ensures { λ r. ⌜ r ≡ entryAt (now (entries .entry)) x ⌝ }
 {
     let at = x * Memory::ENTRY;
     let sum = Swap {
-        link: rows::wide_at(entries, at + 1),
-        cost: rows::wide_at(entries, at + 4),
+        link: entries[at + 1],
+        cost: entries[at + 4],
     };
     let incr = Swap {
-        link: rows::wide_at(entries, at + 2),
-        cost: rows::wide_at(entries, at + 5),
+        link: entries[at + 2],
+        cost: entries[at + 5],
     };
     let max = Swap {
-        link: rows::wide_at(entries, at + 3),
-        cost: rows::wide_at(entries, at + 6),
+        link: entries[at + 3],
+        cost: entries[at + 6],
     };
     Entry {
-        state: rows::wide_at(entries, at),
+        state: entries[at],
         sum,
         incr,
         max,

@@ -1,4 +1,5 @@
 -- `table::get` meets its contract. Assumes nothing.
+use mathlib.Core.Path.{refl}
 use Rattle.table.specs.Work.{entryAt}
 use borrow.Author.Needs.{needs}
 use Rattle.table.proofs.get.Statement.{statement}
@@ -7,65 +8,93 @@ use Rattle.table.proofs.get.Tie as tie
 mul-at : tie.Need-mul-at
 mul-at c = search needs
 
-add-wide-at : tie.Need-add-wide-at
-add-wide-at c = search needs
+add-t7 : tie.Need-add-t7
+add-t7 c = search needs
 
-wide-at-requires : tie.Need-wide-at-requires
-wide-at-requires c κs = search needs
+mul-t8 : tie.Need-mul-t8
+mul-t8 c = search needs
 
-add-wide-at-2 : tie.Need-add-wide-at-2
-add-wide-at-2 c = search needs
+shared-slice-read-t10 : tie.Need-shared-slice-read-t10
+shared-slice-read-t10 c = search needs
 
-wide-at-requires-2 : tie.Need-wide-at-requires-2
-wide-at-requires-2 c κs = search needs
+add-t11 : tie.Need-add-t11
+add-t11 c = search needs
 
-add-wide-at-3 : tie.Need-add-wide-at-3
-add-wide-at-3 c = search needs
+mul-t12 : tie.Need-mul-t12
+mul-t12 c = search needs
 
-wide-at-requires-3 : tie.Need-wide-at-requires-3
-wide-at-requires-3 c κs = search needs
+shared-slice-read-t14 : tie.Need-shared-slice-read-t14
+shared-slice-read-t14 c = search needs
 
-add-wide-at-4 : tie.Need-add-wide-at-4
-add-wide-at-4 c = search needs
+add-t7-2 : tie.Need-add-t7-2
+add-t7-2 c = search needs
 
-wide-at-requires-4 : tie.Need-wide-at-requires-4
-wide-at-requires-4 c κs = search needs
+mul-t8-2 : tie.Need-mul-t8-2
+mul-t8-2 c = search needs
 
-add-wide-at-5 : tie.Need-add-wide-at-5
-add-wide-at-5 c = search needs
+shared-slice-read-t14-2 : tie.Need-shared-slice-read-t14-2
+shared-slice-read-t14-2 c = search needs
 
-wide-at-requires-5 : tie.Need-wide-at-requires-5
-wide-at-requires-5 c κs = search needs
+add-t11-2 : tie.Need-add-t11-2
+add-t11-2 c = search needs
 
-add-wide-at-6 : tie.Need-add-wide-at-6
-add-wide-at-6 c = search needs
+mul-t12-2 : tie.Need-mul-t12-2
+mul-t12-2 c = search needs
 
-wide-at-requires-6 : tie.Need-wide-at-requires-6
-wide-at-requires-6 c κs = search needs
+shared-slice-read-t10-2 : tie.Need-shared-slice-read-t10-2
+shared-slice-read-t10-2 c = search needs
 
-wide-at-requires-7 : tie.Need-wide-at-requires-7
-wide-at-requires-7 c κs = search needs
+add-t7-3 : tie.Need-add-t7-3
+add-t7-3 c = search needs
+
+mul-t8-3 : tie.Need-mul-t8-3
+mul-t8-3 c = search needs
+
+shared-slice-read-t10-3 : tie.Need-shared-slice-read-t10-3
+shared-slice-read-t10-3 c = search needs
+
+add-t11-3 : tie.Need-add-t11-3
+add-t11-3 c = search needs
+
+mul-t12-3 : tie.Need-mul-t12-3
+mul-t12-3 c = search needs
+
+shared-slice-read-t14-3 : tie.Need-shared-slice-read-t14-3
+shared-slice-read-t14-3 c = search needs
+
+mul-t7 : tie.Need-mul-t7
+mul-t7 c = search needs
+
+shared-slice-read-t14-4 : tie.Need-shared-slice-read-t14-4
+shared-slice-read-t14-4 c = search needs
 
 returns : tie.Need-returns
 unfolding entryAt
-returns c = rw (← c .before .before .before .before .before .before .wide-at .ensures, ← c .before .before .before .before .before .wide-at2 .ensures, ← c .before .before .before .before .wide-at3 .ensures, ← c .before .before .before .wide-at4 .ensures, ← c .before .before .wide-at5 .ensures, ← c .before .wide-at6 .ensures, ← c .wide-at7 .ensures)
+returns c = refl
 
 pub get-spec : {M : Type 1} → statement M
 get-spec =
     tie.close
     (tie.spec
     mul-at
-    add-wide-at
-    wide-at-requires
-    add-wide-at-2
-    wide-at-requires-2
-    add-wide-at-3
-    wide-at-requires-3
-    add-wide-at-4
-    wide-at-requires-4
-    add-wide-at-5
-    wide-at-requires-5
-    add-wide-at-6
-    wide-at-requires-6
-    wide-at-requires-7
+    add-t7
+    mul-t8
+    shared-slice-read-t10
+    add-t11
+    mul-t12
+    shared-slice-read-t14
+    add-t7-2
+    mul-t8-2
+    shared-slice-read-t14-2
+    add-t11-2
+    mul-t12-2
+    shared-slice-read-t10-2
+    add-t7-3
+    mul-t8-3
+    shared-slice-read-t10-3
+    add-t11-3
+    mul-t12-3
+    shared-slice-read-t14-3
+    mul-t7
+    shared-slice-read-t14-4
     returns)
