@@ -322,11 +322,11 @@ fn costs_of(
     let climb = side.climb;
     let x = climb.node;
     let z = side.from;
-    let whole = rows::wide_at(bases, x) + product(rows::wide_at(count, x), k);
-    let d = rows::wide_at(near, x);
-    let farthest = side.reach + (k - rows::wide_at(near, z));
+    let whole = bases[x] + product(count[x], k);
+    let d = near[x];
+    let farthest = side.reach + (k - near[z]);
     Costs {
-        sum: whole - rows::wide_at(turns, z),
+        sum: whole - turns[z],
         incr: k - 2 * d,
         max: farthest,
     }

@@ -1,63 +1,85 @@
 -- `table::costs_of` meets its contract. Assumes nothing.
+use lib.ListN.{getD}
+use mathlib.Core.Path.{refl}
+use Rattle.table.proofs.Counts.{small}
+use Rattle.table.proofs.Pricing.{x-low, product-fits, whole-fits, turn-less, own-less, rest-less, own-fits, max-fits, priced}
 use native.Mathlib.Omega.{arith}
-use Rattle.table.proofs.Pricing.{product-fits, whole-fits, turn-less, own-less, rest-less, own-fits, max-fits, priced}
-use borrow.Author.Needs.{needs}
 use Rattle.table.proofs.costs_of.Statement.{statement}
 use Rattle.table.proofs.costs_of.Tie as tie
 
-wide-at-requires : tie.Need-wide-at-requires
-wide-at-requires c κs = search needs
+mul-whole : tie.Need-mul-whole
+mul-whole c = omega (arith, x-low _ _ _ (c .before .before .before .before .before .before .before .pre .0) (λ i. omega (arith, c .before .before .before .before .before .before .shared-slice-known .given i)) _ _ _ _ (c .before .before .before .before .before .before .before .pre .1) _ (c .before .before .before .before .before .before .before .pre .2) (c .before .before .before .before .before .before .before .pre .3) _ _ (c .before .before .before .before .before .before .before .pre .4), small _ _ _ (c .before .before .before .before .before .before .before .pre .0) (λ i. omega (arith, c .before .before .before .before .before .before .shared-slice-known .given i)))
 
-wide-at-requires-2 : tie.Need-wide-at-requires-2
-wide-at-requires-2 c κs = search needs
+shared-slice-read-whole : tie.Need-shared-slice-read-whole
+shared-slice-read-whole c = omega (arith, x-low _ _ _ (c .before .before .before .before .before .before .before .before .pre .0) (λ i. omega (arith, c .before .before .before .before .before .before .before .shared-slice-known .given i)) _ _ _ _ (c .before .before .before .before .before .before .before .before .pre .1) _ (c .before .before .before .before .before .before .before .before .pre .2) (c .before .before .before .before .before .before .before .before .pre .3) _ _ (c .before .before .before .before .before .before .before .before .pre .4), c .before .before .before .before .before .before .before .before .pre .1 .bases-are .room)
+
+mul-product : tie.Need-mul-product
+mul-product c = omega (arith, x-low _ _ _ (c .before .before .before .before .before .before .before .before .pre .0) (λ i. omega (arith, c .before .before .before .before .before .before .before .shared-slice-known .given i)) _ _ _ _ (c .before .before .before .before .before .before .before .before .pre .1) _ (c .before .before .before .before .before .before .before .before .pre .2) (c .before .before .before .before .before .before .before .before .pre .3) _ _ (c .before .before .before .before .before .before .before .before .pre .4), small _ _ _ (c .before .before .before .before .before .before .before .before .pre .0) (λ i. omega (arith, c .before .before .before .before .before .before .before .shared-slice-known .given i)))
+
+shared-slice-read-product : tie.Need-shared-slice-read-product
+shared-slice-read-product c = omega (arith, x-low _ _ _ (c .before .before .before .before .before .before .before .before .before .pre .0) (λ i. omega (arith, c .before .before .before .before .before .before .before .before .shared-slice-known .given i)) _ _ _ _ (c .before .before .before .before .before .before .before .before .before .pre .1) _ (c .before .before .before .before .before .before .before .before .before .pre .2) (c .before .before .before .before .before .before .before .before .before .pre .3) _ _ (c .before .before .before .before .before .before .before .before .before .pre .4), c .before .before .before .before .before .before .before .before .before .pre .1 .counts .room)
 
 product-requires : tie.Need-product-requires
-product-requires c κs = product-fits _ _ _ (c .before .before .before .before .before .before .before .before .before .pre .0) (λ i. omega (arith, c .before .before .before .before .before .before .before .before .shared-slice-known .given i)) _ _ _ _ (c .before .before .before .before .before .before .before .before .before .pre .1) _ (c .before .before .before .before .before .before .before .before .before .pre .2) (c .before .before .before .before .before .before .before .before .before .pre .3) _ _ (c .before .before .before .before .before .before .before .before .before .pre .4) _ (c .wide-at2 .ensures)
+product-requires c κs = product-fits _ _ _ (c .before .before .before .before .before .before .before .before .before .pre .0) (λ i. omega (arith, c .before .before .before .before .before .before .before .before .shared-slice-known .given i)) _ _ _ _ (c .before .before .before .before .before .before .before .before .before .pre .1) _ (c .before .before .before .before .before .before .before .before .before .pre .2) (c .before .before .before .before .before .before .before .before .before .pre .3) _ _ (c .before .before .before .before .before .before .before .before .before .pre .4) _ refl
 
 add-whole : tie.Need-add-whole
-add-whole c = omega (arith, whole-fits _ _ _ (c .before .before .before .before .before .before .before .before .before .before .pre .0) (λ i. omega (arith, c .before .before .before .before .before .before .before .before .before .shared-slice-known .given i)) _ _ _ _ (c .before .before .before .before .before .before .before .before .before .before .pre .1) _ (c .before .before .before .before .before .before .before .before .before .before .pre .2) (c .before .before .before .before .before .before .before .before .before .before .pre .3) _ _ (c .before .before .before .before .before .before .before .before .before .before .pre .4) _ (c .before .wide-at2 .ensures) _ _ (c .before .before .wide-at .ensures) (c .product .ensures))
+add-whole c = omega (arith, whole-fits _ _ _ (c .before .before .before .before .before .before .before .before .before .before .pre .0) (λ i. omega (arith, c .before .before .before .before .before .before .before .before .before .shared-slice-known .given i)) _ _ _ _ (c .before .before .before .before .before .before .before .before .before .before .pre .1) _ (c .before .before .before .before .before .before .before .before .before .before .pre .2) (c .before .before .before .before .before .before .before .before .before .before .pre .3) _ _ (c .before .before .before .before .before .before .before .before .before .before .pre .4) _ refl _ _ refl (c .product .ensures))
 
-wide-at-requires-3 : tie.Need-wide-at-requires-3
-wide-at-requires-3 c κs = search needs
+mul-d : tie.Need-mul-d
+mul-d c = omega (arith, x-low _ _ _ (c .before .before .before .before .before .before .before .before .before .before .pre .0) (λ i. omega (arith, c .before .before .before .before .before .before .before .before .before .shared-slice-known .given i)) _ _ _ _ (c .before .before .before .before .before .before .before .before .before .before .pre .1) _ (c .before .before .before .before .before .before .before .before .before .before .pre .2) (c .before .before .before .before .before .before .before .before .before .before .pre .3) _ _ (c .before .before .before .before .before .before .before .before .before .before .pre .4), small _ _ _ (c .before .before .before .before .before .before .before .before .before .before .pre .0) (λ i. omega (arith, c .before .before .before .before .before .before .before .before .before .shared-slice-known .given i)))
 
-wide-at-requires-4 : tie.Need-wide-at-requires-4
-wide-at-requires-4 c κs = search needs
+shared-slice-read-d : tie.Need-shared-slice-read-d
+shared-slice-read-d c = omega (arith, x-low _ _ _ (c .before .before .before .before .before .before .before .before .before .before .before .pre .0) (λ i. omega (arith, c .before .before .before .before .before .before .before .before .before .before .shared-slice-known .given i)) _ _ _ _ (c .before .before .before .before .before .before .before .before .before .before .before .pre .1) _ (c .before .before .before .before .before .before .before .before .before .before .before .pre .2) (c .before .before .before .before .before .before .before .before .before .before .before .pre .3) _ _ (c .before .before .before .before .before .before .before .before .before .before .before .pre .4), c .before .before .before .before .before .before .before .before .before .before .before .pre .1 .nears .room)
+
+mul-farthest : tie.Need-mul-farthest
+mul-farthest c = omega (arith, c .before .before .before .before .before .before .before .before .before .before .before .pre .3, small _ _ _ (c .before .before .before .before .before .before .before .before .before .before .before .pre .0) (λ i. omega (arith, c .before .before .before .before .before .before .before .before .before .before .shared-slice-known .given i)))
+
+shared-slice-read-farthest : tie.Need-shared-slice-read-farthest
+shared-slice-read-farthest c = omega (arith, c .before .before .before .before .before .before .before .before .before .before .before .before .pre .3, c .before .before .before .before .before .before .before .before .before .before .before .before .pre .1 .nears .room)
 
 sub-farthest : tie.Need-sub-farthest
-sub-farthest c = rest-less _ _ _ (c .before .before .before .before .before .before .before .before .before .before .before .before .pre .0) (λ i. omega (arith, c .before .before .before .before .before .before .before .before .before .before .before .shared-slice-known .given i)) _ _ _ _ (c .before .before .before .before .before .before .before .before .before .before .before .before .pre .1) _ (c .before .before .before .before .before .before .before .before .before .before .before .before .pre .2) (c .before .before .before .before .before .before .before .before .before .before .before .before .pre .3) _ _ (c .before .before .before .before .before .before .before .before .before .before .before .before .pre .4) _ (c .wide-at4 .ensures)
+sub-farthest c = rest-less _ _ _ (c .before .before .before .before .before .before .before .before .before .before .before .before .pre .0) (λ i. omega (arith, c .before .before .before .before .before .before .before .before .before .before .before .shared-slice-known .given i)) _ _ _ _ (c .before .before .before .before .before .before .before .before .before .before .before .before .pre .1) _ (c .before .before .before .before .before .before .before .before .before .before .before .before .pre .2) (c .before .before .before .before .before .before .before .before .before .before .before .before .pre .3) _ _ (c .before .before .before .before .before .before .before .before .before .before .before .before .pre .4) _ refl
 
 add-farthest : tie.Need-add-farthest
-add-farthest c = omega (arith, max-fits _ _ _ (c .before .before .before .before .before .before .before .before .before .before .before .before .before .pre .0) (λ i. omega (arith, c .before .before .before .before .before .before .before .before .before .before .before .before .shared-slice-known .given i)) _ _ _ _ (c .before .before .before .before .before .before .before .before .before .before .before .before .before .pre .1) _ (c .before .before .before .before .before .before .before .before .before .before .before .before .before .pre .2) (c .before .before .before .before .before .before .before .before .before .before .before .before .before .pre .3) _ _ (c .before .before .before .before .before .before .before .before .before .before .before .before .before .pre .4) (c .before .wide-at4 .result))
-
-wide-at-requires-5 : tie.Need-wide-at-requires-5
-wide-at-requires-5 c κs = search needs
-
-sub-t19 : tie.Need-sub-t19
-sub-t19 c = turn-less _ _ _ (c .before .before .before .before .before .before .before .before .before .before .before .before .before .before .pre .0) (λ i. omega (arith, c .before .before .before .before .before .before .before .before .before .before .before .before .before .shared-slice-known .given i)) _ _ _ _ (c .before .before .before .before .before .before .before .before .before .before .before .before .before .before .pre .1) _ (c .before .before .before .before .before .before .before .before .before .before .before .before .before .before .pre .2) (c .before .before .before .before .before .before .before .before .before .before .before .before .before .before .pre .3) _ _ (c .before .before .before .before .before .before .before .before .before .before .before .before .before .before .pre .4) _ (c .before .before .before .before .before .wide-at2 .ensures) _ _ (c .before .before .before .before .before .before .wide-at .ensures) (c .before .before .before .before .product .ensures) _ (c .wide-at5 .ensures)
+add-farthest c = omega (arith, max-fits _ _ _ (c .before .before .before .before .before .before .before .before .before .before .before .before .before .pre .0) (λ i. omega (arith, c .before .before .before .before .before .before .before .before .before .before .before .before .shared-slice-known .given i)) _ _ _ _ (c .before .before .before .before .before .before .before .before .before .before .before .before .before .pre .1) _ (c .before .before .before .before .before .before .before .before .before .before .before .before .before .pre .2) (c .before .before .before .before .before .before .before .before .before .before .before .before .before .pre .3) _ _ (c .before .before .before .before .before .before .before .before .before .before .before .before .before .pre .4) (getD (c .before .before .before .before .before .before .before .before .before .before .before .before .before .args .near .now) (c .before .before .before .before .before .before .before .before .before .before .before .before .before .args .side .from) 0))
 
 mul-t17 : tie.Need-mul-t17
-mul-t17 c = omega (arith, own-fits _ _ _ (c .before .before .before .before .before .before .before .before .before .before .before .before .before .before .pre .0) (λ i. omega (arith, c .before .before .before .before .before .before .before .before .before .before .before .before .before .shared-slice-known .given i)) _ _ _ _ (c .before .before .before .before .before .before .before .before .before .before .before .before .before .before .pre .1) _ (c .before .before .before .before .before .before .before .before .before .before .before .before .before .before .pre .2) (c .before .before .before .before .before .before .before .before .before .before .before .before .before .before .pre .3) _ _ (c .before .before .before .before .before .before .before .before .before .before .before .before .before .before .pre .4) _ (c .before .before .before .wide-at3 .ensures))
+mul-t17 c = omega (arith, c .before .before .before .before .before .before .before .before .before .before .before .before .before .pre .3, small _ _ _ (c .before .before .before .before .before .before .before .before .before .before .before .before .before .pre .0) (λ i. omega (arith, c .before .before .before .before .before .before .before .before .before .before .before .before .shared-slice-known .given i)))
 
-sub-t20 : tie.Need-sub-t20
-sub-t20 c = own-less _ _ _ (c .before .before .before .before .before .before .before .before .before .before .before .before .before .before .pre .0) (λ i. omega (arith, c .before .before .before .before .before .before .before .before .before .before .before .before .before .shared-slice-known .given i)) _ _ _ _ (c .before .before .before .before .before .before .before .before .before .before .before .before .before .before .pre .1) _ (c .before .before .before .before .before .before .before .before .before .before .before .before .before .before .pre .2) (c .before .before .before .before .before .before .before .before .before .before .before .before .before .before .pre .3) _ _ (c .before .before .before .before .before .before .before .before .before .before .before .before .before .before .pre .4) _ (c .before .before .before .wide-at3 .ensures)
+shared-slice-read-t19 : tie.Need-shared-slice-read-t19
+shared-slice-read-t19 c = omega (arith, c .before .before .before .before .before .before .before .before .before .before .before .before .before .before .pre .3, c .before .before .before .before .before .before .before .before .before .before .before .before .before .before .pre .1 .turns-are .room)
+
+sub-t23 : tie.Need-sub-t23
+sub-t23 c = turn-less _ _ _ (c .before .before .before .before .before .before .before .before .before .before .before .before .before .before .pre .0) (λ i. omega (arith, c .before .before .before .before .before .before .before .before .before .before .before .before .before .shared-slice-known .given i)) _ _ _ _ (c .before .before .before .before .before .before .before .before .before .before .before .before .before .before .pre .1) _ (c .before .before .before .before .before .before .before .before .before .before .before .before .before .before .pre .2) (c .before .before .before .before .before .before .before .before .before .before .before .before .before .before .pre .3) _ _ (c .before .before .before .before .before .before .before .before .before .before .before .before .before .before .pre .4) _ refl _ _ refl (c .before .before .before .before .product .ensures) _ refl
+
+mul-t20 : tie.Need-mul-t20
+mul-t20 c = omega (arith, own-fits _ _ _ (c .before .before .before .before .before .before .before .before .before .before .before .before .before .before .pre .0) (λ i. omega (arith, c .before .before .before .before .before .before .before .before .before .before .before .before .before .shared-slice-known .given i)) _ _ _ _ (c .before .before .before .before .before .before .before .before .before .before .before .before .before .before .pre .1) _ (c .before .before .before .before .before .before .before .before .before .before .before .before .before .before .pre .2) (c .before .before .before .before .before .before .before .before .before .before .before .before .before .before .pre .3) _ _ (c .before .before .before .before .before .before .before .before .before .before .before .before .before .before .pre .4) _ refl)
+
+sub-t27 : tie.Need-sub-t27
+sub-t27 c = own-less _ _ _ (c .before .before .before .before .before .before .before .before .before .before .before .before .before .before .pre .0) (λ i. omega (arith, c .before .before .before .before .before .before .before .before .before .before .before .before .before .shared-slice-known .given i)) _ _ _ _ (c .before .before .before .before .before .before .before .before .before .before .before .before .before .before .pre .1) _ (c .before .before .before .before .before .before .before .before .before .before .before .before .before .before .pre .2) (c .before .before .before .before .before .before .before .before .before .before .before .before .before .before .pre .3) _ _ (c .before .before .before .before .before .before .before .before .before .before .before .before .before .before .pre .4) _ refl
 
 returns : tie.Need-returns
-returns c = priced _ _ _ (c .before .before .before .before .before .before .before .before .before .before .before .before .before .before .pre .0) (λ i. omega (arith, c .before .before .before .before .before .before .before .before .before .before .before .before .before .shared-slice-known .given i)) _ _ _ _ (c .before .before .before .before .before .before .before .before .before .before .before .before .before .before .pre .1) _ (c .before .before .before .before .before .before .before .before .before .before .before .before .before .before .pre .2) (c .before .before .before .before .before .before .before .before .before .before .before .before .before .before .pre .3) _ _ (c .before .before .before .before .before .before .before .before .before .before .before .before .before .before .pre .4) _ (c .before .before .before .before .before .wide-at2 .ensures) _ _ (c .before .before .before .before .before .before .wide-at .ensures) (c .before .before .before .before .product .ensures) _ (c .wide-at5 .ensures) _ _ (c .before .before .before .wide-at3 .ensures) (c .before .before .wide-at4 .ensures)
+returns c = priced _ _ _ (c .before .before .before .before .before .before .before .before .before .before .before .before .before .before .pre .0) (λ i. omega (arith, c .before .before .before .before .before .before .before .before .before .before .before .before .before .shared-slice-known .given i)) _ _ _ _ (c .before .before .before .before .before .before .before .before .before .before .before .before .before .before .pre .1) _ (c .before .before .before .before .before .before .before .before .before .before .before .before .before .before .pre .2) (c .before .before .before .before .before .before .before .before .before .before .before .before .before .before .pre .3) _ _ (c .before .before .before .before .before .before .before .before .before .before .before .before .before .before .pre .4) _ refl _ _ refl (c .before .before .before .before .product .ensures) _ refl _ _ refl refl
 
 pub costs-of-spec : {M : Type 1} → statement M
 costs-of-spec =
     tie.close
     (tie.spec
-    wide-at-requires
-    wide-at-requires-2
+    mul-whole
+    shared-slice-read-whole
+    mul-product
+    shared-slice-read-product
     product-requires
     add-whole
-    wide-at-requires-3
-    wide-at-requires-4
+    mul-d
+    shared-slice-read-d
+    mul-farthest
+    shared-slice-read-farthest
     sub-farthest
     add-farthest
-    wide-at-requires-5
-    sub-t19
     mul-t17
-    sub-t20
+    shared-slice-read-t19
+    sub-t23
+    mul-t20
+    sub-t27
     returns)
