@@ -168,11 +168,11 @@ module _ (links parents : List ℕ) (search : Search) (ok : netVerdict (netOf li
       b-in : b .climb .node < treeIn links parents search .size
       b-in = under-below (treeIn links parents search) (closed-in links parents search ok) z (b .climb .node) z-home z-in (i .cb .along .on)
 
-      a-node : a .climb .node < length parents
+      pub a-node : a .climb .node < length parents
       unfolding treeOf netOf
       a-node = a-in
 
-      b-node : b .climb .node < length parents
+      pub b-node : b .climb .node < length parents
       unfolding treeOf netOf
       b-node = b-in
 

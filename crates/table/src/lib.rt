@@ -392,9 +392,10 @@ fn node_of(side: Side) -> usize
 
 // How many nodes are below where a climb is, itself among them.
 fn below(count: &[u64], side: Side) -> u64
+    requires { ⌜ side .climb .node < length (now count) ⌝ }
     ensures { λ r. ⌜ r ≡ getD (now (count .entry)) (side .climb .node) 0 ⌝ }
 {
-    rows::wide_at(count, node_of(side))
+    count[node_of(side)]
 }
 
 // Offers link e to every marked node that it crosses, by a climb from each end up to where the routes meet.

@@ -1,4 +1,5 @@
 -- `table::climb_link` meets its contract. Assumes nothing.
+use Rattle.table.proofs.Linking.{a-node, b-node, Between, between-turn, straight, turned, between-start, fewer, not-top, carrying, from-in, crossing, between-more, between-less, between-end}
 use Prim.Native.Nat.{_+_}
 use Rattle.network.specs.Network.{netOf}
 use Rattle.tree.proofs.InRows.{treeIn}
@@ -6,7 +7,6 @@ use Rattle.tree.specs.Tree.{route}
 use lib.ListN.{length}
 use native.Mathlib.Omega.{arith}
 use mathlib.Core.Path.{_∙_, sym}
-use Rattle.table.proofs.Linking.{Between, between-turn, straight, turned, between-start, fewer, not-top, carrying, from-in, crossing, between-more, between-less, between-end}
 use borrow.Author.Needs.{needs}
 use Rattle.table.proofs.climb_link.Statement.{statement}
 use Rattle.table.proofs.climb_link.Tie as tie
@@ -27,10 +27,10 @@ node-of-requires-2 : tie.Need-node-of-requires-2 Inv-loop μ-loop
 node-of-requires-2 c κs = search needs
 
 below-requires : tie.Need-below-requires Inv-loop μ-loop
-below-requires c κs = search needs
+below-requires c κs = omega (arith, a-node _ _ _ (c .before .before .before .before .before .before .before .before .before .before .before .before .before .pre .0) _ _ (c .before .before .before .before .before .before .before .before .before .before .before .before .before .pre .3) _ _ _ _ (straight _ _ _ (c .before .before .before .before .before .before .before .before .before .before .before .before .before .pre .0) _ _ (c .before .before .before .before .before .before .before .before .before .before .before .before .before .pre .3)) _ _ _ (c .before .before .before .loop .inv), c .before .before .before .before .before .before .before .before .before .before .before .before .before .pre .1 .counts .room)
 
 below-requires-2 : tie.Need-below-requires-2 Inv-loop μ-loop
-below-requires-2 c κs = search needs
+below-requires-2 c κs = omega (arith, b-node _ _ _ (c .before .before .before .before .before .before .before .before .before .before .before .before .before .before .pre .0) _ _ (c .before .before .before .before .before .before .before .before .before .before .before .before .before .before .pre .3) _ _ _ _ (straight _ _ _ (c .before .before .before .before .before .before .before .before .before .before .before .before .before .before .pre .0) _ _ (c .before .before .before .before .before .before .before .before .before .before .before .before .before .before .pre .3)) _ _ _ (c .before .before .before .before .loop .inv), c .before .before .before .before .before .before .before .before .before .before .before .before .before .before .pre .1 .counts .room)
 
 offer-at-requires : tie.Need-offer-at-requires Inv-loop μ-loop
 offer-at-requires c κs = ((c .before .before .before .before .before .before .before .before .before .before .before .before .before .before .before .before .before .pre .0), (c .before .before .before .before .before .before .before .before .before .before .before .before .before .before .before .before .before .pre .1), carrying _ _ _ (c .before .before .before .before .before .before .before .before .before .before .before .before .before .before .before .before .before .pre .0) _ _ (c .before .before .before .before .before .before .before .before .before .before .before .before .before .before .before .before .before .pre .3) _ _ _ _ (straight _ _ _ (c .before .before .before .before .before .before .before .before .before .before .before .before .before .before .before .before .before .pre .0) _ _ (c .before .before .before .before .before .before .before .before .before .before .before .before .before .before .before .before .before .pre .3)) _ _ _ (c .before .before .before .before .before .before .before .loop .inv) (λ q. c .before .before .before .before .if1 .taken (c .before .before .before .before .before .before .node-of .ensures ∙ q ∙ sym (c .before .before .before .before .before .node-of2 .ensures))) (fewer _ _ _ (c .before .before .before .before .before .before .before .before .before .before .before .before .before .before .before .before .before .pre .0) _ _ (c .before .before .before .before .before .before .before .before .before .before .before .before .before .before .before .before .before .pre .3) _ _ _ _ (straight _ _ _ (c .before .before .before .before .before .before .before .before .before .before .before .before .before .before .before .before .before .pre .0) _ _ (c .before .before .before .before .before .before .before .before .before .before .before .before .before .before .before .before .before .pre .3)) _ _ _ (c .before .before .before .before .before .before .before .loop .inv) _ _ _ _ (c .before .before .before .before .before .before .before .before .before .before .before .before .before .before .before .before .before .pre .1) _ _ (c .before .before .before .below .ensures) (c .before .before .below2 .ensures) (c .before .if2 .taken)), from-in _ _ _ (c .before .before .before .before .before .before .before .before .before .before .before .before .before .before .before .before .before .pre .0) _ _ (c .before .before .before .before .before .before .before .before .before .before .before .before .before .before .before .before .before .pre .3) _ _ _ _ (straight _ _ _ (c .before .before .before .before .before .before .before .before .before .before .before .before .before .before .before .before .before .pre .0) _ _ (c .before .before .before .before .before .before .before .before .before .before .before .before .before .before .before .before .before .pre .3)) _ _ _ (c .before .before .before .before .before .before .before .loop .inv) (λ q. c .before .before .before .before .if1 .taken (c .before .before .before .before .before .before .node-of .ensures ∙ q ∙ sym (c .before .before .before .before .before .node-of2 .ensures))) (fewer _ _ _ (c .before .before .before .before .before .before .before .before .before .before .before .before .before .before .before .before .before .pre .0) _ _ (c .before .before .before .before .before .before .before .before .before .before .before .before .before .before .before .before .before .pre .3) _ _ _ _ (straight _ _ _ (c .before .before .before .before .before .before .before .before .before .before .before .before .before .before .before .before .before .pre .0) _ _ (c .before .before .before .before .before .before .before .before .before .before .before .before .before .before .before .before .before .pre .3)) _ _ _ (c .before .before .before .before .before .before .before .loop .inv) _ _ _ _ (c .before .before .before .before .before .before .before .before .before .before .before .before .before .before .before .before .before .pre .1) _ _ (c .before .before .before .below .ensures) (c .before .before .below2 .ensures) (c .before .if2 .taken)), crossing _ _ _ (c .before .before .before .before .before .before .before .before .before .before .before .before .before .before .before .before .before .pre .0) _ _ (c .before .before .before .before .before .before .before .before .before .before .before .before .before .before .before .before .before .pre .3) _ _ _ _ (straight _ _ _ (c .before .before .before .before .before .before .before .before .before .before .before .before .before .before .before .before .before .pre .0) _ _ (c .before .before .before .before .before .before .before .before .before .before .before .before .before .before .before .before .before .pre .3)) _ _ _ (c .before .before .before .before .before .before .before .loop .inv) (λ q. c .before .before .before .before .if1 .taken (c .before .before .before .before .before .before .node-of .ensures ∙ q ∙ sym (c .before .before .before .before .before .node-of2 .ensures))) (fewer _ _ _ (c .before .before .before .before .before .before .before .before .before .before .before .before .before .before .before .before .before .pre .0) _ _ (c .before .before .before .before .before .before .before .before .before .before .before .before .before .before .before .before .before .pre .3) _ _ _ _ (straight _ _ _ (c .before .before .before .before .before .before .before .before .before .before .before .before .before .before .before .before .before .pre .0) _ _ (c .before .before .before .before .before .before .before .before .before .before .before .before .before .before .before .before .before .pre .3)) _ _ _ (c .before .before .before .before .before .before .before .loop .inv) _ _ _ _ (c .before .before .before .before .before .before .before .before .before .before .before .before .before .before .before .before .before .pre .1) _ _ (c .before .before .before .below .ensures) (c .before .before .below2 .ensures) (c .before .if2 .taken)), not-top _ _ _ (c .before .before .before .before .before .before .before .before .before .before .before .before .before .before .before .before .before .pre .0) _ _ (c .before .before .before .before .before .before .before .before .before .before .before .before .before .before .before .before .before .pre .3) _ _ _ _ (straight _ _ _ (c .before .before .before .before .before .before .before .before .before .before .before .before .before .before .before .before .before .pre .0) _ _ (c .before .before .before .before .before .before .before .before .before .before .before .before .before .before .before .before .before .pre .3)) _ _ _ (c .before .before .before .before .before .before .before .loop .inv) (λ q. c .before .before .before .before .if1 .taken (c .before .before .before .before .before .before .node-of .ensures ∙ q ∙ sym (c .before .before .before .before .before .node-of2 .ensures))) (fewer _ _ _ (c .before .before .before .before .before .before .before .before .before .before .before .before .before .before .before .before .before .pre .0) _ _ (c .before .before .before .before .before .before .before .before .before .before .before .before .before .before .before .before .before .pre .3) _ _ _ _ (straight _ _ _ (c .before .before .before .before .before .before .before .before .before .before .before .before .before .before .before .before .before .pre .0) _ _ (c .before .before .before .before .before .before .before .before .before .before .before .before .before .before .before .before .before .pre .3)) _ _ _ (c .before .before .before .before .before .before .before .loop .inv) _ _ _ _ (c .before .before .before .before .before .before .before .before .before .before .before .before .before .before .before .before .before .pre .1) _ _ (c .before .before .before .below .ensures) (c .before .before .below2 .ensures) (c .before .if2 .taken)), omega (arith, c .before .before .before .before .before .before .before .loop .inv .size, c .before .before .before .before .before .before .before .before .before .before .before .before .before .before .before .before .before .pre .5))
