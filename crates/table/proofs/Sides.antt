@@ -79,6 +79,9 @@ module _ (links parents : List ℕ) (search : Search) (ok : netVerdict (netOf li
       unfolding stepped
       next = ap (λ (y : Climb). y .node) q
 
+      pub next-low : c .node < length parents
+      next-low = rw next up-there
+
       module _ (d : ℕ) (dq : d ≡ getD near (c .node) 0) where
         d-is : d ≡ dist (treeIn links parents search) (treeIn links parents search .up (s .climb .node))
         d-is = dq ∙ ap (λ (y : ℕ). getD near y 0) next ∙ h .each _ up-there

@@ -293,12 +293,15 @@ fn step_side(
 {
     let old = side.climb;
     let climb = old.step(links, parents, search);
-    let d = rows::wide_at(near, climb.node);
-    let down = rows::wide_at(near, side.from) - d;
-    let over = rows::wide_at(asides, old.node) - d;
+    let x = old.node;
+    let p = climb.node;
+    let z = side.from;
+    let d = near[p];
+    let down = near[z] - d;
+    let over = asides[x] - d;
     Side {
         climb,
-        from: side.from,
+        from: z,
         reach: larger(side.reach, down + over),
     }
 }
