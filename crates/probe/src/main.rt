@@ -1,5 +1,6 @@
 // The library from the outside: reads cases from standard input, and prints what the public functions answer and what they
 // leave in the lent rows. The rows are made once, and every case uses them again.
+mod changes;
 mod checking;
 mod input;
 mod limits;
@@ -8,6 +9,7 @@ mod ops;
 mod output;
 mod tables;
 
+use input::Head;
 use input::Heading;
 use limits::BYTES;
 use limits::CASES;
@@ -22,21 +24,19 @@ enum Next {
     Over(usize),
 }
 
-// Reads the next case and prints what it answers. An op that is not in the table is told before the limits; an input that
+// Reads the rest of a case and prints what it answers. An op that is not in the table is told before the limits; an input that
 // ends inside a case prints nothing for it.
-fn next_case(
+fn answer_case(
+    head: Head,
     links: &mut [u16],
     parents: &mut [u16],
     row: &mut [u64],
     bytes: &mut [u8],
     file: &mut [u8],
+    copy: &mut [u16],
     out: &mut [u8],
     at: usize,
 ) -> Next {
-    let heading = input::read_head(bytes);
-    let Heading::Is(head) = heading else {
-        return Next::Over(at);
-    };
     if !ops::is_op(head.op) {
         return Next::Over(output::put(out, at, b"unknown\n"));
     }
@@ -46,7 +46,25 @@ fn next_case(
     if !input::read_rows(head, links, parents, bytes) {
         return Next::Over(at);
     }
-    Next::On(ops::answer(head, links, parents, row, bytes, file, out, at))
+    Next::On(ops::answer(head, links, parents, row, bytes, file, copy, out, at))
+}
+
+// Reads the next case and prints what it answers.
+fn next_case(
+    links: &mut [u16],
+    parents: &mut [u16],
+    row: &mut [u64],
+    bytes: &mut [u8],
+    file: &mut [u8],
+    copy: &mut [u16],
+    out: &mut [u8],
+    at: usize,
+) -> Next {
+    let heading = input::read_head(bytes);
+    let Heading::Is(head) = heading else {
+        return Next::Over(at);
+    };
+    answer_case(head, links, parents, row, bytes, file, copy, out, at)
 }
 
 // Reads cases until one ends the program, and prints what they answer. It ends after `CASES` of them too.
@@ -56,12 +74,13 @@ fn run(
     row: &mut [u64],
     bytes: &mut [u8],
     file: &mut [u8],
+    copy: &mut [u16],
     out: &mut [u8],
 ) {
     let mut at = 0;
     let mut left = CASES;
     while 0 < left {
-        match next_case(links, parents, row, bytes, file, out, at) {
+        match next_case(links, parents, row, bytes, file, copy, out, at) {
             Next::On(waits) => at = waits,
             Next::Over(waits) => {
                 output::flush(out, waits);
@@ -79,6 +98,7 @@ fn main() {
     let mut row = [0u64; ROOM];
     let mut bytes = [0u8; BYTES];
     let mut file = [0u8; ROOM];
+    let mut copy = [0u16; LINKS];
     let mut out = [0u8; OUT];
     run(
         &mut links,
@@ -86,6 +106,7 @@ fn main() {
         &mut row,
         &mut bytes,
         &mut file,
+        &mut copy,
         &mut out,
     );
 }

@@ -4,12 +4,14 @@ ghost use mathlib.Core.Path.{_≡_};
 ghost use Prim.Native.Nat.{_≤_};
 ghost use lib.ListN.{length};
 ghost use Rattle.probe.specs.Limits.{isOp, takesBytes};
+use crate::changes;
 use crate::checking;
 use crate::input;
 use crate::input::Head;
 use crate::maps;
 use crate::output;
 use crate::tables;
+use edition::Change;
 
 pub const CHECK: u16 = 1;
 
@@ -34,7 +36,7 @@ pub fn is_op(op: u16) -> bool
     if op < CHECK {
         return false;
     }
-    op <= MAP
+    op <= CHANGE_UNFILLED
 }
 
 // Whether bytes follow the parents, not link numbers.
@@ -47,8 +49,59 @@ pub fn takes_bytes(op: u16) -> bool
     op == PAYLOAD
 }
 
+// Prints what ops 4 and 5 answer: the change of link a to mark b and length c.
+fn change(
+    head: Head,
+    filled: bool,
+    links: &mut [u16],
+    parents: &[u16],
+    row: &mut [u64],
+    copy: &mut [u16],
+    out: &mut [u8],
+    at: usize,
+) -> usize
+    ensures { λ r. ⌜ r ≤ length (now (out .exit)) ⌝ }
+{
+    let rest = head.rest;
+    let room = head.room;
+    if links.len() < rest {
+        return output::flush(out, at);
+    }
+    if row.len() < room {
+        return output::flush(out, at);
+    }
+    tables::fill(row);
+    let change = Change {
+        link: head.a,
+        mark: head.b,
+        length: head.c,
+    };
+    if filled {
+        return changes::change_table(
+            &mut links[0..rest],
+            parents,
+            head.search,
+            change,
+            &mut row[0..room],
+            copy,
+            out,
+            at,
+        );
+    }
+    changes::change(
+        &mut links[0..rest],
+        parents,
+        head.search,
+        change,
+        &mut row[0..room],
+        copy,
+        out,
+        at,
+    )
+}
+
 // Prints what the head's op answers. `links`, `parents` and `bytes` begin with what was read. The room that a case lends is the
-// beginning of `row` or `file`, and for op 7 that of `links`, `parents` and `row`.
+// beginning of `row` or `file`, and for op 7 that of `links`, `parents` and `row`; `copy` is room for a copy of `links`.
 pub fn answer(
     head: Head,
     links: &mut [u16],
@@ -56,6 +109,7 @@ pub fn answer(
     row: &mut [u64],
     bytes: &mut [u8],
     file: &mut [u8],
+    copy: &mut [u16],
     out: &mut [u8],
     at: usize,
 ) -> usize
@@ -92,6 +146,14 @@ pub fn answer(
             out,
             at,
         );
+    }
+    if op == CHANGE {
+        let named = input::first(parents, head.parents);
+        return change(head, true, links, named, row, copy, out, at);
+    }
+    if op == CHANGE_UNFILLED {
+        let named = input::first(parents, head.parents);
+        return change(head, false, links, named, row, copy, out, at);
     }
     output::flush(out, at)
 }

@@ -2,9 +2,10 @@
 ghost use mathlib.Core.Path.{_≡_};
 ghost use Prim.Native.Nat.{_≤_};
 ghost use lib.ListN.{length};
-ghost use Rattle.edition.specs.Limits.{nodeLimit};
 ghost use Rattle.rows.specs.Count.{rowWith};
+ghost use Rattle.probe.specs.Limits.{mostParents};
 ghost use Rattle.probe.specs.Output.{fillMark, isKept, restText, waits, Holds};
+use crate::limits::PARENTS;
 use crate::output;
 use edition::Memory;
 use edition::Search;
@@ -50,7 +51,7 @@ pub fn put_rest(out: &mut [u8], at: usize, row: &[u64], from: usize) -> usize
 
 // Prints the entry line of node u.
 fn put_entry(out: &mut [u8], at: usize, row: &[u64], u: usize) -> usize
-    requires { ⌜ u ≤ nodeLimit ⌝ }
+    requires { ⌜ u ≤ mostParents ⌝ }
     ensures { λ r. ⌜ r ≤ length (now (out .exit)) ⌝ }
 {
     let mut waits = output::put_number(out, at, u as u64);
@@ -63,11 +64,16 @@ fn put_entry(out: &mut [u8], at: usize, row: &[u64], u: usize) -> usize
     output::put_newline(out, waits)
 }
 
-// Prints the entry lines of the first n nodes.
-fn put_entries(out: &mut [u8], at: usize, row: &[u64], n: usize) -> usize
-    requires { ⌜ (n ≤ nodeLimit) × (at ≤ length (now out)) ⌝ }
+// Prints the entry lines of the first n nodes; none where n is over the limit on parents.
+pub fn put_entries(out: &mut [u8], at: usize, row: &[u64], n: usize) -> usize
     ensures { λ r. ⌜ r ≤ length (now (out .exit)) ⌝ }
 {
+    if out.len() < at {
+        return output::flush(out, at);
+    }
+    if PARENTS < n {
+        return at;
+    }
     let mut waits = at;
     let mut u = 0;
     while u < n {
@@ -85,7 +91,7 @@ fn put_table(said: Verdict, n: usize, row: &[u64], out: &mut [u8], at: usize) ->
     match said {
         Verdict::Taken => {
             let told = output::put(out, named, b" ok\n");
-            if Memory::NODES < n {
+            if PARENTS < n {
                 return told;
             }
             let listed = put_entries(out, told, row, n);

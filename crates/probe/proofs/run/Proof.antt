@@ -6,11 +6,11 @@ use Rattle.probe.proofs.run.Statement.{statement}
 use Rattle.probe.proofs.run.Tie as tie
 
 abbrev Inv-loop : tie.InvT-loop
-Inv-loop links₀ parents₀ row₀ bytes₀ file₀ out₀ at₀ left₀ links parents row bytes file out at left =
-    (length links ≡ length links₀) × (length parents ≡ length parents₀) × (length row ≡ length row₀) × (length bytes ≡ length bytes₀) × (length file ≡ length file₀) × (length out ≡ length out₀)
+Inv-loop links₀ parents₀ row₀ bytes₀ file₀ copy₀ out₀ at₀ left₀ links parents row bytes file copy out at left =
+    (length links ≡ length links₀) × (length parents ≡ length parents₀) × (length row ≡ length row₀) × (length bytes ≡ length bytes₀) × (length file ≡ length file₀) × (length copy ≡ length copy₀) × (length out ≡ length out₀)
 
 abbrev μ-loop : tie.MeasureT-loop
-μ-loop links₀ parents₀ row₀ bytes₀ file₀ out₀ at₀ left₀ links parents row bytes file out at left =
+μ-loop links₀ parents₀ row₀ bytes₀ file₀ copy₀ out₀ at₀ left₀ links parents row bytes file copy out at left =
     left
 
 loop-holds : tie.Need-loop-holds Inv-loop μ-loop
@@ -46,6 +46,9 @@ same-length-5 c = search needs
 same-length-6 : tie.Need-same-length-6 Inv-loop μ-loop
 same-length-6 c = search needs
 
+same-length-7 : tie.Need-same-length-7 Inv-loop μ-loop
+same-length-7 c = search needs
+
 returns : tie.Need-returns Inv-loop μ-loop
 returns c = search needs
 
@@ -61,9 +64,6 @@ loop-again c = search needs
 flush-requires-2 : tie.Need-flush-requires-2 Inv-loop μ-loop
 flush-requires-2 c κs = search needs
 
-same-length-7 : tie.Need-same-length-7 Inv-loop μ-loop
-same-length-7 c = search needs
-
 same-length-8 : tie.Need-same-length-8 Inv-loop μ-loop
 same-length-8 c = search needs
 
@@ -78,6 +78,12 @@ same-length-11 c = search needs
 
 same-length-12 : tie.Need-same-length-12 Inv-loop μ-loop
 same-length-12 c = search needs
+
+same-length-13 : tie.Need-same-length-13 Inv-loop μ-loop
+same-length-13 c = search needs
+
+same-length-14 : tie.Need-same-length-14 Inv-loop μ-loop
+same-length-14 c = search needs
 
 returns-2 : tie.Need-returns-2 Inv-loop μ-loop
 returns-2 c = search needs
@@ -99,15 +105,17 @@ run-spec =
     same-length-4
     same-length-5
     same-length-6
+    same-length-7
     returns
     sub-left
     loop-less
     loop-again
     flush-requires-2
-    same-length-7
     same-length-8
     same-length-9
     same-length-10
     same-length-11
     same-length-12
+    same-length-13
+    same-length-14
     returns-2)

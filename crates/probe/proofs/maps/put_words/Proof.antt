@@ -6,12 +6,6 @@ use mathlib.Core.Path.{_≡_}
 use borrow.Author.Needs.{needs}
 use Rattle.probe.proofs.maps.put_words.Statement.{statement}
 use Rattle.probe.proofs.maps.put_words.Tie as tie
-use Rattle.probe.proofs.maps.put_words.Reads as reads
-use Rattle.probe.proofs.maps.put_words.Lts as lts
-use Rattle.probe.proofs.output.put_newline.Reads as put-newline-reads
-use Rattle.probe.proofs.output.put_number.Reads as put-number-reads
-use Rattle.probe.proofs.output.put_space.Reads as put-space-reads
-use Rattle.rows.proofs.wide_at.Reads as wide-at-reads
 
 abbrev Inv-loop : tie.InvT-loop
 Inv-loop out₀ at row waits₀ i₀ out waits i = length out ≡ length out₀

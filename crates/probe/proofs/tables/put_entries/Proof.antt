@@ -12,6 +12,18 @@ Inv-loop out₀ at row n waits₀ u₀ out waits u = (length out ≡ length out�
 abbrev μ-loop : tie.MeasureT-loop
 μ-loop out₀ at row n waits₀ u₀ out waits u = n - u
 
+flush-requires : tie.Need-flush-requires Inv-loop μ-loop
+flush-requires c κs = search needs
+
+same-length : tie.Need-same-length Inv-loop μ-loop
+same-length c = search needs
+
+returns : tie.Need-returns Inv-loop μ-loop
+returns c = search needs
+
+returns-2 : tie.Need-returns-2 Inv-loop μ-loop
+returns-2 c = search needs
+
 loop-holds : tie.Need-loop-holds Inv-loop μ-loop
 loop-holds c = search needs
 
@@ -27,11 +39,11 @@ loop-less c = search needs
 loop-again : tie.Need-loop-again Inv-loop μ-loop
 loop-again c = search needs
 
-same-length : tie.Need-same-length Inv-loop μ-loop
-same-length c = search needs
+same-length-2 : tie.Need-same-length-2 Inv-loop μ-loop
+same-length-2 c = search needs
 
-returns : tie.Need-returns Inv-loop μ-loop
-returns c = search needs
+returns-3 : tie.Need-returns-3 Inv-loop μ-loop
+returns-3 c = search needs
 
 pub put-entries-spec : {M : Type 1} → statement M
 put-entries-spec =
@@ -39,10 +51,14 @@ put-entries-spec =
     (tie.spec
     Inv-loop
     μ-loop
+    flush-requires
+    same-length
+    returns
+    returns-2
     loop-holds
     put-entry-requires
     add-u
     loop-less
     loop-again
-    same-length
-    returns)
+    same-length-2
+    returns-3)

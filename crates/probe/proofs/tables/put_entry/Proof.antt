@@ -1,4 +1,3 @@
--- `probe::tables::put_entry` meets its contract. Assumes nothing.
 use Rattle.edition.specs.Limits.{entryWidth}
 use lib.ListN.{length}
 use Prim.Native.Nat.{_-_}
