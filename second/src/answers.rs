@@ -90,7 +90,8 @@ fn byte_lines(bytes: &[u8]) -> String {
     text
 }
 
-fn lent_row(room: usize) -> Vec<u64> {
+/// A lent row before anything is written.
+pub fn lent_row(room: usize) -> Vec<u64> {
     vec![u64::from(ROW_FILL); room]
 }
 

@@ -15,8 +15,8 @@ pub struct Change {
     pub length: u16,
 }
 
-/// Refusals 11, 6, 12, 13, in this order.
-fn verdict(rows: &Rows, tree: &Tree, change: &Change) -> Result<(), Refusal> {
+/// Refusals 11, 6, 12, 13, in this order, on a checked network.
+pub fn verdict(rows: &Rows, tree: &Tree, change: &Change) -> Result<(), Refusal> {
     let net = rows.lend();
     let e = change.link as usize;
     if e >= net.m() {
@@ -33,6 +33,17 @@ fn verdict(rows: &Rows, tree: &Tree, change: &Change) -> Result<(), Refusal> {
         return refuse(Why::ChangeShortness, e);
     }
     Ok(())
+}
+
+/// Stores the record that the change gives its link.
+pub fn set(rows: &mut Rows, change: &Change) {
+    let e = change.link as usize;
+    let new = Link {
+        ends: rows.lend().link(e).ends,
+        length: change.length,
+        mark: change.mark,
+    };
+    rows.set_link(e, new);
 }
 
 /// The nodes whose tree link lies on the tree path between the two ends:
@@ -55,15 +66,9 @@ pub fn change(
     let tree = check(&rows.lend(), depth)?;
     check_room(rows.parents.len(), row)?;
     verdict(rows, &tree, change)?;
-    let e = change.link as usize;
-    let ends = rows.lend().link(e).ends;
-    let new = Link {
-        ends,
-        length: change.length,
-        mark: change.mark,
-    };
-    rows.set_link(e, new);
+    set(rows, change);
     let net = rows.lend();
+    let ends = net.link(change.link as usize).ends;
     let tree = check_rows(&net).expect("the changed network is sound");
     let search = Search::new(&net, &tree, depth);
     for x in path(&tree, ends) {

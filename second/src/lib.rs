@@ -1,8 +1,8 @@
 //! A second program for the swap table of document 01.
 //!
 //! It is written from the paper's definitions and shares nothing with the
-//! proved library. It makes cases for the probe, says what the probe must
-//! print, lists stored files and writes sample files.
+//! proved library. It makes cases for the probe and series of changes, says
+//! what must be printed for them, lists stored files and writes sample files.
 
 pub mod answers;
 pub mod block;
@@ -25,6 +25,7 @@ pub mod reader;
 pub mod refusal;
 pub mod rng;
 pub mod samples;
+pub mod series;
 pub mod shapes;
 pub mod table;
 pub mod tree;

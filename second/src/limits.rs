@@ -89,3 +89,18 @@ pub const ROW_FILL: u16 = 7;
 pub const BYTE_FILL: u8 = 0xA5;
 /// Bytes printed on one line.
 pub const BYTES_A_LINE: usize = 32;
+
+// Series of changes.
+
+/// Words in the head of a series.
+pub const SERIES_HEAD: usize = 5;
+/// Words in a change.
+pub const CHANGE_WORDS: usize = 3;
+/// The most changes of a series.
+pub const MOST_CHANGES: usize = 1_000;
+/// Entries of room past the table of a series.
+pub const SPARE_ENTRIES: usize = 2;
+/// What the mix of a row is multiplied by before each number.
+pub const MIX_FACTOR: u64 = 31;
+/// A mix is below this prime.
+pub const MIX_PRIME: u64 = 4_294_967_291;

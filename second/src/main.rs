@@ -1,19 +1,21 @@
 //! The second program's command line.
 
 use second::answers::answers;
-use second::cases::{input, ops};
+use second::cases::{input, ops, series};
 use second::file::write;
 use second::harbour::harbour;
 use second::limits::{LONGEST_LISTED, WHOLE};
 use second::listing::listing;
 use second::samples::samples;
+use second::series::lines;
 use std::env::args;
 use std::io::{stdin, stdout, Read, Result, Write};
 use std::path::Path;
 use std::process::ExitCode;
 
 const USAGE: &str =
-    "usage: second list | harbour | expect | cases OPS SEED COUNT | files DIR SEED COUNT";
+    "usage: second list | harbour | expect | cases OPS SEED COUNT | files DIR SEED COUNT
+       second series SEED COUNT | series-expect";
 
 fn main() -> ExitCode {
     let words: Vec<String> = args().skip(1).collect();
@@ -36,10 +38,15 @@ fn run(words: &[&str]) -> Option<Result<()>> {
     match words {
         ["list"] => Some(answer_input(listing)),
         ["expect"] => Some(answer_input(answers)),
+        ["series-expect"] => Some(answer_input(lines)),
         ["harbour"] => Some(print(&harbour_file())),
         ["cases", list, seed, count] => {
             let bytes = input(&ops(list)?, seed.parse().ok()?, count.parse().ok()?);
             Some(print(&bytes))
+        }
+        ["series", seed, count] => {
+            let (seed, count) = (seed.parse().ok()?, count.parse().ok()?);
+            Some(print(&series(seed, count).encode()))
         }
         ["files", dir, seed, count] => {
             let (seed, count) = (seed.parse().ok()?, count.parse().ok()?);

@@ -214,7 +214,8 @@ fn take<'a>(input: &mut &'a [u8], count: usize) -> Option<&'a [u8]> {
     Some(front)
 }
 
-fn take_words(input: &mut &[u8], count: usize) -> Option<Vec<u16>> {
+/// Takes so many words off the front of the input.
+pub fn take_words(input: &mut &[u8], count: usize) -> Option<Vec<u16>> {
     let bytes = take(input, 2 * count)?;
     let word = |pair: &[u8]| u16::from_be_bytes([pair[0], pair[1]]);
     Some(bytes.chunks(2).map(word).collect())

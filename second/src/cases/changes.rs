@@ -12,7 +12,7 @@ use crate::random;
 use crate::rng::Rng;
 
 /// A change as the words a, b, c: link, mark, length.
-type Words = [u16; 3];
+pub type Words = [u16; 3];
 
 fn case(op: u16, rows: &Rows, depth: u16, words: Words) -> Case {
     let mut case = Case::over(op, rows, depth, need(op, rows));
@@ -151,7 +151,7 @@ fn faulty(op: u16) -> Vec<Case> {
 
 /// A change of an accepted network: kind 0 any, 1 no link, 2 a tree link,
 /// 3 a bad mark, 4 too short, and from 5 on one that is likely taken.
-fn some_change(rng: &mut Rng, rows: &Rows, kind: usize) -> Words {
+pub fn some_change(rng: &mut Rng, rows: &Rows, kind: usize) -> Words {
     let net = rows.lend();
     let m = net.m() as u16;
     if m == 0 || kind == 1 {
@@ -167,20 +167,23 @@ fn some_change(rng: &mut Rng, rows: &Rows, kind: usize) -> Words {
         return [rng.pick(&in_tree), rng.below(3) as u16, rng.word() % 9];
     }
     let e = rng.pick(&spare);
+    change_of(rng, rows, e, kind)
+}
+
+/// A change of the same kinds, but for 1 and 2, of a link outside the tree.
+pub fn change_of(rng: &mut Rng, rows: &Rows, e: u16, kind: usize) -> Words {
+    let net = rows.lend();
+    let m = net.m();
     let tree = check(&net, WHOLE).expect("the network is sound");
     let least = least_length(&net, &tree, e as usize).min(u64::from(LONGEST)) as u16;
     let length = net.link(e as usize).length;
     match kind {
-        0 => [
-            rng.below(m as usize) as u16,
-            rng.below(2) as u16,
-            rng.word() % 9,
-        ],
+        0 => [rng.below(m) as u16, rng.below(2) as u16, rng.word() % 9],
         3 => [e, rng.pick(&[2, 3, 256, 65_535]), least.saturating_sub(1)],
         4 => [e, rng.below(2) as u16, least.saturating_sub(1)],
         _ => {
             let more = rng.pick(&[0, 0, 1, 2, 5]);
-            let tie = net.link(rng.below(m as usize)).length.max(least);
+            let tie = net.link(rng.below(m)).length.max(least);
             let lengths = [least.saturating_add(more), length, tie];
             [e, rng.pick(&[1, 1, 0]), rng.pick(&lengths)]
         }

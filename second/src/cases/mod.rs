@@ -6,11 +6,13 @@ mod changes;
 mod endings;
 mod files;
 mod networks;
+mod series;
 
 use crate::probe::*;
 use crate::rng::Rng;
 
 pub use endings::ENDINGS;
+pub use series::series;
 
 /// The fixed cases of an op.
 pub fn fixed(op: u16) -> Vec<Case> {
