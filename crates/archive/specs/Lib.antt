@@ -1,3 +1,4 @@
 pub mod Parts
 pub mod Writer
 pub mod Reader
+pub mod Work

@@ -2,6 +2,7 @@
 use mathlib.Core.Bool.{cond}
 use Prim.Native.Nat.{ℕ, _+_, _*_, _-_, _/_, _%_, min}
 use lib.Dec.{eqb, leb}
+use Rattle.archive.specs.declared.Part.{Part}
 use Rattle.edition.specs.Stored.{blockBytes, frontBytes, headerKind, linksKind, tableKind, linkBytes, entryBytes, headersABlock, linksABlock, entriesABlock}
 
 -- How many blocks hold c records, so many a block.
@@ -15,12 +16,6 @@ linkBlocks m = blocksFor linksABlock m
 -- How many blocks a file has: the header, the link blocks, the table blocks.
 unfoldable pub blockCount : ℕ → ℕ → ℕ
 blockCount n m = 1 + linkBlocks m + blocksFor entriesABlock n
-
--- What a block holds: its kind, the number of its first record, and how many it holds.
-pub record Part : Type 0 where
-  pub kind : ℕ
-  pub from : ℕ
-  pub used : ℕ
 
 -- Block j of those of a kind: each but the last is full.
 unfoldable pub partOf : ℕ → ℕ → ℕ → ℕ → Part

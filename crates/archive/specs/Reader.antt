@@ -21,7 +21,7 @@ use Rattle.table.specs.Table.{table, entriesIn}
 use Rattle.block.specs.Bytes.{numberIn}
 use Rattle.block.specs.Block.{blockVerdict}
 use Rattle.archive.specs.Parts.{blockCount, partAt, linkPlace, entryPlace}
-use Rattle.archive.specs.Writer.{entryRecord}
+use Rattle.record.specs.Record.{entryRecord}
 
 -- The header's numbers: n, m, root, depth.
 unfoldable pub nodesRead : List ℕ → ℕ

@@ -1,0 +1,36 @@
+-- What private functions of this crate promise each other. No public promise cites this page. Assumes nothing.
+use mathlib.Core.Bool.{cond}
+use mathlib.Core.List.{List}
+use Prim.Native.Nat.{ℕ, _+_, _*_, _≤_}
+use lib.Dec.{eqb}
+use lib.ListN.{length, getD}
+use lib.Seq.{sets}
+use Rattle.edition.specs.declared.Search.{Search}
+use Rattle.edition.specs.Limits.{noLink, linkLimit}
+use Rattle.edition.specs.Stored.{frontBytes, headerKind, linksKind, headerBytes, linkBytes, entryBytes}
+use Rattle.rows.specs.Count.{rowsTo}
+use Rattle.network.specs.Network.{linksIn, linkIn}
+use Rattle.table.specs.Work.{entryAt}
+use Rattle.record.specs.Record.{headerRecord, linkRecord, entryRecord}
+use Rattle.archive.specs.declared.Part.{Part}
+
+-- bytes a record of a kind; what is neither header nor link is an entry
+unfoldable pub heldBytes : ℕ → ℕ
+heldBytes kind = cond (eqb kind headerKind) headerBytes (cond (eqb kind linksKind) linkBytes entryBytes)
+
+-- record r of a kind, by the lent rows and a row of entries
+unfoldable pub recordIn : List ℕ → List ℕ → Search → List ℕ → ℕ → ℕ → List ℕ
+recordIn links parents search entries kind r =
+    let header = headerRecord (length parents) (linksIn links) search in
+    let link = linkRecord (linkIn links r) in
+    let own = entryRecord (getD parents r noLink) (entryAt entries r) in
+    cond (eqb kind headerKind) header (cond (eqb kind linksKind) link own)
+
+-- a block with the records of a part behind its front
+unfoldable pub laid : (ℕ → List ℕ) → Part → List ℕ → List ℕ
+laid f part row = sets row frontBytes (rowsTo (λ r. f (part .from + r)) (part .used))
+
+-- a part whose records there are, and that a block of so many bytes holds
+pub record Held (part : Part) (room : ℕ) : Type 0 where
+  pub low : part .from + part .used ≤ linkLimit
+  pub fits : frontBytes + part .used * heldBytes (part .kind) ≤ room
