@@ -81,3 +81,14 @@ blockVerdict kind number used b =
 -- What is handed back: the payload of a sound block, an empty part otherwise.
 unfoldable pub payload : ℕ → ℕ → ℕ → List ℕ → List ℕ
 payload kind number used b = let part = take payloadBytes (drop frontBytes b) in made (blockVerdict kind number used b) part []
+
+-- Where in the lent bytes that part begins.
+unfoldable pub payloadPlace : ℕ → ℕ → ℕ → List ℕ → ℕ
+payloadPlace kind number used b = made (blockVerdict kind number used b) frontBytes 0
+
+-- A row of 512 bytes made a block of the records from byte 8 on. A row that is no block, or a kind and count of which no block
+-- is, stays.
+unfoldable pub sealed : ℕ → ℕ → ℕ → List ℕ → List ℕ
+sealed kind number used b =
+    let made = block kind number used (take (used * recordBytes kind) (drop frontBytes b)) in
+    cond (not (eqb (length b) blockBytes) || unheard kind used) b made

@@ -141,6 +141,8 @@ impl Edition {
 
     pub const ENTRY_BYTES: usize = 28;
 
+    pub const HEADERS_A_BLOCK: usize = 1;
+
     pub const LINKS_A_BLOCK: usize = 63;
 
     pub const ENTRIES_A_BLOCK: usize = 18;

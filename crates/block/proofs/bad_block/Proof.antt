@@ -1,0 +1,35 @@
+-- `block::bad_block` meets its contract. Assumes nothing.
+use Rattle.block.proofs.Fillers.{unheard-bad, front-bad, filler-decides}
+use mathlib.Core.Path.{sym, _∙_}
+use borrow.Author.Needs.{needs}
+use Rattle.block.proofs.bad_block.Statement.{statement}
+use Rattle.block.proofs.bad_block.Tie as tie
+
+is-unheard-requires : tie.Need-is-unheard-requires
+is-unheard-requires c κs = search needs
+
+returns : tie.Need-returns
+returns c = unheard-bad _ _ _ _ _ (c .before .is-unheard .ensures) (c .if1 .taken)
+
+bad-front-requires : tie.Need-bad-front-requires
+bad-front-requires c κs = search needs
+
+returns-2 : tie.Need-returns-2
+returns-2 c = front-bad _ _ _ _ _ (c .before .before .before .is-unheard .ensures) (c .before .before .if1 .left) _ (c .before .bad-front .ensures) (c .if2 .taken)
+
+bad-filler-requires : tie.Need-bad-filler-requires
+bad-filler-requires c κs = (c .before .before .before .before .before .pre, sym (c .before .before .before .is-unheard .ensures) ∙ c .before .before .if1 .left)
+
+returns-3 : tie.Need-returns-3
+returns-3 c = filler-decides _ _ _ _ _ (c .before .before .before .before .is-unheard .ensures) (c .before .before .before .if1 .left) _ (c .before .before .bad-front .ensures) (c .before .if2 .left) _ (c .bad-filler .ensures)
+
+pub bad-block-spec : {M : Type 1} → statement M
+bad-block-spec =
+    tie.close
+    (tie.spec
+    is-unheard-requires
+    returns
+    bad-front-requires
+    returns-2
+    bad-filler-requires
+    returns-3)

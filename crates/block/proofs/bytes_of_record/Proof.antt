@@ -1,0 +1,24 @@
+-- `block::bytes_of_record` meets its contract. Assumes nothing.
+use borrow.Author.Tests.{eq-eqb, ne-eqb}
+use Rattle.block.specs.Block.{recordBytes}
+use Rattle.block.proofs.bytes_of_record.Statement.{statement}
+use Rattle.block.proofs.bytes_of_record.Tie as tie
+
+returns : tie.Need-returns
+unfolding recordBytes
+returns c = rw (eq-eqb _ _ (c .if1 .taken))
+
+returns-2 : tie.Need-returns-2
+unfolding recordBytes
+returns-2 c = rw (ne-eqb _ _ (c .before .if1 .left), eq-eqb _ _ (c .if2 .taken))
+
+returns-3 : tie.Need-returns-3
+unfolding recordBytes
+returns-3 c = rw (ne-eqb _ _ (c .before .before .if1 .left), ne-eqb _ _ (c .before .if2 .left), eq-eqb _ _ (c .if3 .taken))
+
+returns-4 : tie.Need-returns-4
+unfolding recordBytes
+returns-4 c = rw (ne-eqb _ _ (c .before .before .if1 .left), ne-eqb _ _ (c .before .if2 .left), ne-eqb _ _ (c .if3 .left))
+
+pub bytes-of-record-spec : {M : Type 1} → statement M
+bytes-of-record-spec = tie.close (tie.spec returns returns-2 returns-3 returns-4)

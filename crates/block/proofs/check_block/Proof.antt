@@ -1,0 +1,38 @@
+-- `block::check_block` meets its contract. Assumes nothing.
+use Rattle.block.proofs.Judging.{length-refuses, check-refuses, block-decides}
+use borrow.Author.Needs.{needs}
+use Rattle.block.proofs.check_block.Statement.{statement}
+use Rattle.block.proofs.check_block.Tie as tie
+
+returns : tie.Need-returns
+returns c = length-refuses _ _ _ _ (c .if1 .taken)
+
+number-at-requires : tie.Need-number-at-requires
+number-at-requires c κs = search needs
+
+check-of-requires : tie.Need-check-of-requires
+check-of-requires c κs = search needs
+
+returns-2 : tie.Need-returns-2
+returns-2 c = check-refuses _ _ _ _ (c .before .before .before .if1 .left) _ (c .before .before .number-at .ensures) _ (c .before .check-of .ensures) (c .if2 .taken)
+
+bad-block-requires : tie.Need-bad-block-requires
+bad-block-requires c κs = search needs
+
+refuse-if-requires : tie.Need-refuse-if-requires
+refuse-if-requires c κs = search needs
+
+returns-3 : tie.Need-returns-3
+returns-3 c = block-decides _ _ _ _ (c .before .before .before .before .before .if1 .left) _ (c .before .before .before .before .number-at .ensures) _ (c .before .before .before .check-of .ensures) (c .before .before .if2 .left) _ (c .before .bad-block .ensures) _ (c .refuse-if .ensures)
+
+pub check-block-spec : {M : Type 1} → statement M
+check-block-spec =
+    tie.close
+    (tie.spec
+    returns
+    number-at-requires
+    check-of-requires
+    returns-2
+    bad-block-requires
+    refuse-if-requires
+    returns-3)

@@ -1,0 +1,36 @@
+-- `block::put_front` meets its contract. Assumes nothing.
+use Rattle.block.proofs.Sealing.{number-length, front-put}
+use native.Mathlib.Omega.{arith}
+use lib.ListN.{length-set}
+use borrow.Author.Needs.{needs}
+use Rattle.block.proofs.put_front.Statement.{statement}
+use Rattle.block.proofs.put_front.Tie as tie
+
+slice-write-b : tie.Need-slice-write-b
+slice-write-b c = search needs
+
+slice-write-b-2 : tie.Need-slice-write-b-2
+slice-write-b-2 c = search needs
+
+put-number-requires : tie.Need-put-number-requires
+put-number-requires c κs = search needs
+
+put-number-requires-2 : tie.Need-put-number-requires-2
+put-number-requires-2 c κs = simp (c .before .before .before .put-number .ensures, number-length, length-set) (omega (arith, c .before .before .before .before .before .before .pre))
+
+same-length : tie.Need-same-length
+same-length c = simp (c .before .before .put-number2 .ensures, number-length, c .before .before .before .before .before .before .put-number .ensures, number-length, length-set)
+
+returns : tie.Need-returns
+returns c = front-put _ _ _ _ _ _ (c .before .before .before .before .before .before .put-number .ensures) (c .before .before .put-number2 .ensures)
+
+pub put-front-spec : {M : Type 1} → statement M
+put-front-spec =
+    tie.close
+    (tie.spec
+    slice-write-b
+    slice-write-b-2
+    put-number-requires
+    put-number-requires-2
+    same-length
+    returns)

@@ -1,0 +1,65 @@
+-- `block::seal` meets its contract. Assumes nothing.
+use Rattle.block.proofs.Sealing.{seal-short, seal-unheard, seal-room, seal-is}
+use native.Mathlib.Omega.{arith}
+use Rattle.block.proofs.Sizes.{size-fits}
+use mathlib.Core.Path.{sym, _∙_}
+use borrow.Author.Needs.{needs}
+use Rattle.block.proofs.seal.Statement.{statement}
+use Rattle.block.proofs.seal.Tie as tie
+
+returns : tie.Need-returns
+returns c = seal-short _ _ _ _ (c .if1 .taken)
+
+is-unheard-requires : tie.Need-is-unheard-requires
+is-unheard-requires c κs = search needs
+
+returns-2 : tie.Need-returns-2
+returns-2 c = seal-unheard _ _ _ _ (c .before .before .if1 .left) _ (c .before .is-unheard .ensures) (c .if2 .taken)
+
+bytes-of-record-requires : tie.Need-bytes-of-record-requires
+bytes-of-record-requires c κs = search needs
+
+mul-size : tie.Need-mul-size
+mul-size c = omega (arith, size-fits _ _ (sym (c .before .before .is-unheard .ensures) ∙ c .before .if2 .left) _ (c .bytes-of-record .ensures))
+
+put-front-requires : tie.Need-put-front-requires
+put-front-requires c κs = search needs
+
+add-clear : tie.Need-add-clear
+add-clear c = omega (arith, size-fits _ _ (sym (c .before .before .before .before .before .before .before .is-unheard .ensures) ∙ c .before .before .before .before .before .before .if2 .left) _ (c .before .before .before .before .before .bytes-of-record .ensures))
+
+sub-clear : tie.Need-sub-clear
+sub-clear c = omega (arith, size-fits _ _ (sym (c .before .before .before .before .before .before .before .is-unheard .ensures) ∙ c .before .before .before .before .before .before .if2 .left) _ (c .before .before .before .before .before .bytes-of-record .ensures))
+
+clear-requires : tie.Need-clear-requires
+clear-requires c κs = seal-room _ _ _ _ (c .before .before .before .before .before .before .before .before .if1 .left) _ (c .before .before .before .before .before .before .before .is-unheard .ensures) (c .before .before .before .before .before .before .if2 .left) _ (c .before .before .before .before .before .bytes-of-record .ensures) _ (c .before .before .before .put-front .ensures)
+
+check-of-requires : tie.Need-check-of-requires
+check-of-requires c κs = search needs
+
+put-number-requires : tie.Need-put-number-requires
+put-number-requires c κs = search needs
+
+same-length : tie.Need-same-length
+same-length c = search needs
+
+returns-3 : tie.Need-returns-3
+returns-3 c = seal-is _ _ _ _ (c .before .before .before .before .before .before .before .before .before .before .before .before .before .before .before .before .before .if1 .left) _ (c .before .before .before .before .before .before .before .before .before .before .before .before .before .before .before .before .is-unheard .ensures) (c .before .before .before .before .before .before .before .before .before .before .before .before .before .before .before .if2 .left) _ (c .before .before .before .before .before .before .before .before .before .before .before .before .before .before .bytes-of-record .ensures) _ (c .before .before .before .before .before .before .before .before .before .before .before .before .put-front .ensures) _ (c .before .before .before .before .before .before .before .before .clear .ensures) _ (c .before .before .before .before .check-of .ensures) _ (c .before .before .put-number .ensures)
+
+pub seal-spec : {M : Type 1} → statement M
+seal-spec =
+    tie.close
+    (tie.spec
+    returns
+    is-unheard-requires
+    returns-2
+    bytes-of-record-requires
+    mul-size
+    put-front-requires
+    add-clear
+    sub-clear
+    clear-requires
+    check-of-requires
+    put-number-requires
+    same-length
+    returns-3)
