@@ -5,3 +5,4 @@ pub mod Fronts
 pub mod Judging
 pub mod Fillers
 pub mod Sealing
+pub mod Whole

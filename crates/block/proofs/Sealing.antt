@@ -75,6 +75,12 @@ module _ (before : List ℕ) (from count : ℕ) where
         s .is ∙ ap (paste before from (replicate count 0)) q
 
 module _ (kind number used : ℕ) (b : List ℕ) where
+  -- a row that is made a block
+  pub sealed-is : length b ≡ blockBytes → unheard kind used ≡ false → block kind number used (take (used * recordBytes kind) (drop frontBytes b)) ≡ sealed kind number used b
+  unfolding sealed
+  sealed-is l h = rw (eq-eqb (length b) blockBytes l, h)
+
+  -- a row that stays
   pub seal-short : (length b ≡ blockBytes → ⊥) → b ≡ sealed kind number used b
   unfolding sealed
   seal-short h = rw (ne-eqb (length b) blockBytes h)
@@ -85,8 +91,11 @@ module _ (kind number used : ℕ) (b : List ℕ) where
     seal-unheard h = rw (eq-eqb (length b) blockBytes l, ← p, h)
 
     module _ (h : t ≡ false) (w : ℕ) (q : w ≡ recordBytes kind) (r : List ℕ) (e : r ≡ withFront kind number used b) where
+      heard : unheard kind used ≡ false
+      heard = sym p ∙ h
+
       size : used * w ≤ payloadBytes
-      size = size-fits kind used (sym p ∙ h) w q
+      size = size-fits kind used heard w q
 
       pub seal-room : frontBytes + used * w + (payloadBytes - used * w) ≤ length r
       seal-room = omega (arith, size, ap length e ∙ front-length kind number used b)
@@ -122,9 +131,9 @@ module _ (kind number used : ℕ) (b : List ℕ) where
             ∙ ap (λ (x : List ℕ). front kind number used ++ getD b 6 0 ∷ getD b 7 0 ∷ x) fills))))
 
         pub seal-is : (c : ℕ) → c ≡ checkOf s → (z : List ℕ) → z ≡ withNumber s 6 c → z ≡ sealed kind number used b
-        unfolding sealed withNumber front bytesOf checkOf block records
+        unfolding withNumber front bytesOf checkOf block records
         seal-is c i z j =
             let check : c ≡ checksum (front kind number used ++ 0 ∷ 0 ∷ filled records) = i ∙ ap checkOf emptied in
             j
             ∙ (ap₂ (λ (x : List ℕ) (v : ℕ). withNumber x 6 v) emptied check
-            ∙ rw (eq-eqb (length b) blockBytes l, ← p, h))
+            ∙ sealed-is l heard)

@@ -38,8 +38,9 @@ fn ones_add(a: u16, b: u16) -> u16
     ensures { λ r. ⌜ r ≡ onesAdd a b ⌝ }
 {
     let sum = a as u32 + b as u32;
-    if (WORD_MOST as u32) < sum {
-        return (sum - WORD_MOST as u32) as u16;
+    let most = WORD_MOST as u32;
+    if most < sum {
+        return (sum - most) as u16;
     }
     sum as u16
 }

@@ -1,6 +1,6 @@
 -- `block::has_dirty_entry` meets its contract. Assumes nothing.
-use Rattle.block.proofs.Clean.{Clean, clean-start, clean-more, clean-found, clean-all}
 use Prim.Native.Nat.{_-_}
+use Rattle.block.proofs.Clean.{Clean, clean-start, clean-more, clean-found, clean-all}
 use mathlib.Core.Path.{sym, _∙_}
 use Rattle.block.specs.Block.{dirtyEntry}
 use borrow.Author.Needs.{needs}

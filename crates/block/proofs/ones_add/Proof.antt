@@ -8,24 +8,21 @@ use Rattle.block.proofs.ones_add.Tie as tie
 add-sum : tie.Need-add-sum
 add-sum c = search needs
 
-cast-if1 : tie.Need-cast-if1
-cast-if1 c = search needs
-
-cast-result : tie.Need-cast-result
-cast-result c = search needs
+cast-most : tie.Need-cast-most
+cast-most c = search needs
 
 sub-result : tie.Need-sub-result
 sub-result c = search needs
 
-cast-result-2 : tie.Need-cast-result-2
-cast-result-2 c = search needs
+cast-result : tie.Need-cast-result
+cast-result c = search needs
 
 returns : tie.Need-returns
 unfolding onesAdd
 returns c = rw (lt-ltb _ _ (c .if1 .taken))
 
-cast-result-3 : tie.Need-cast-result-3
-cast-result-3 c = search needs
+cast-result-2 : tie.Need-cast-result-2
+cast-result-2 c = search needs
 
 returns-2 : tie.Need-returns-2
 unfolding onesAdd
@@ -33,13 +30,4 @@ returns-2 c = rw (le-ltb _ _ (c .if1 .left))
 
 pub ones-add-spec : {M : Type 1} → statement M
 ones-add-spec =
-    tie.close
-    (tie.spec
-    add-sum
-    cast-if1
-    cast-result
-    sub-result
-    cast-result-2
-    returns
-    cast-result-3
-    returns-2)
+    tie.close (tie.spec add-sum cast-most sub-result cast-result returns cast-result-2 returns-2)

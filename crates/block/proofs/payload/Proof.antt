@@ -1,6 +1,6 @@
 -- `block::payload` meets its contract. Assumes nothing.
-use Prim.Native.Nat.{ℕ, _+_}
 use Rattle.block.proofs.Judging.{taken-length, payload-taken, place-taken, payload-none, place-none}
+use Prim.Native.Nat.{ℕ, _+_}
 use native.Mathlib.Omega.{arith}
 use mathlib.Core.Path.{refl, sym, ap, _∙_}
 use borrow.Author.Needs.{needs}

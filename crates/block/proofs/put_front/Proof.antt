@@ -1,7 +1,7 @@
 -- `block::put_front` meets its contract. Assumes nothing.
 use Rattle.block.proofs.Sealing.{number-length, front-put}
-use native.Mathlib.Omega.{arith}
 use lib.ListN.{length-set}
+use native.Mathlib.Omega.{arith}
 use borrow.Author.Needs.{needs}
 use Rattle.block.proofs.put_front.Statement.{statement}
 use Rattle.block.proofs.put_front.Tie as tie
