@@ -1,4 +1,5 @@
--- A block is taken exactly where it is the one that the writer makes of its records. Assumes nothing.
+-- A block is taken only where it is the one that the writer makes of its records, and what the writer makes of records with
+-- clean filler is taken. Assumes nothing.
 use mathlib.Core.Path.{_≡_, refl, sym, ap, ap₂, _∙_}
 use mathlib.Core.Bool.{Bool, true, false, not, _&&_}
 use mathlib.Core.List.{List, _∷_, _++_}
@@ -18,10 +19,11 @@ use Rattle.rows.proofs.Listed.{same-equal, equal-same}
 use Rattle.rows.proofs.Refusing.{head-taken, rest-taken, both-taken, none-left, if-taken, if-passes}
 use Rattle.rows.proofs.Tests.{or-false, or3-false}
 use Rattle.block.specs.Bytes.{bytesOf, numberIn, checksum, dirty}
-use Rattle.block.specs.Block.{recordBytes, front, checkOf, filled, block, badCheck, dirtyEntry, badFiller, unheard, badBlock, blockVerdict}
+use Rattle.block.specs.Block.{recordBytes, front, checkOf, filled, block, badCheck, dirtyEntry, badFiller, unheard, badBlock, blockVerdict, sealed}
 use Rattle.block.proofs.Summing.{number-two}
 use Rattle.block.proofs.Sizes.{heard-size}
 use Rattle.block.proofs.Judging.{taken-length}
+use Rattle.block.proofs.Sealing.{sealed-is}
 
 -- bytes that are clean are zeros
 zeros : (s : List ℕ) (i k : ℕ) → i + k ≡ length s → dirty s i k ≡ false → drop i s ≡ replicate k 0
@@ -184,3 +186,12 @@ module _ (kind number used : ℕ) (records : List ℕ) (heard : unheard kind use
         both-taken _ _ (if-passes (not (eqb (length made) blockBytes)) BadLength 0 (ap not (eq-eqb (length made) blockBytes made-length)))
         (both-taken _ _ (if-passes (badCheck made) BadCheck number (ap not (eq-eqb (numberIn made 6 2) (checkOf made) made-check)))
         (both-taken _ _ (if-passes (badBlock kind number used made) BadBlock number made-whole) none-left))
+
+-- so is a row that is made a block
+pub seal-taken : (kind number used : ℕ) (b : List ℕ) → length b ≡ blockBytes → unheard kind used ≡ false → (kind ≡ tableKind → (r : ℕ) → r < used → Zeroed (take (used * recordBytes kind) (drop frontBytes b)) r) → blockVerdict kind number used (sealed kind number used b) ≡ Taken
+seal-taken kind number used b l h clean =
+    let size = heard-size kind used h in
+    rw (← sealed-is kind number used b l h)
+    (sealed-sound kind number used (take (used * recordBytes kind) (drop frontBytes b)) h
+    (length-take-le (used * recordBytes kind) (drop frontBytes b) (omega (arith, length-drop frontBytes b)))
+    clean)
