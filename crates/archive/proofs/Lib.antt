@@ -1,3 +1,6 @@
+pub mod Blocks
+pub mod Files
+pub mod Filing
 pub mod Laying
 pub mod Parting
 pub mod Records

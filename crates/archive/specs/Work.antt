@@ -1,15 +1,19 @@
 -- What private functions of this crate promise each other. No public promise cites this page. Assumes nothing.
 use mathlib.Core.Bool.{cond}
-use mathlib.Core.List.{List}
+use mathlib.Core.Path.{_≡_}
+use mathlib.Core.List.{List, _++_}
 use Prim.Native.Nat.{ℕ, _+_, _*_, _≤_}
 use lib.Dec.{eqb}
 use lib.ListN.{length, getD}
 use lib.Seq.{sets}
 use Rattle.edition.specs.declared.Search.{Search}
+use Rattle.edition.specs.declared.Verdict.the-variants.{Taken}
 use Rattle.edition.specs.Limits.{noLink, linkLimit}
 use Rattle.edition.specs.Stored.{frontBytes, headerKind, linksKind, headerBytes, linkBytes, entryBytes}
 use Rattle.rows.specs.Count.{rowsTo}
-use Rattle.network.specs.Network.{linksIn, linkIn}
+use Rattle.network.specs.Network.{Net, linksIn, linkIn}
+use Rattle.sound.specs.Sound.{netVerdict}
+use Rattle.table.specs.Table.{table}
 use Rattle.table.specs.Work.{entryAt}
 use Rattle.record.specs.Record.{headerRecord, linkRecord, entryRecord}
 use Rattle.archive.specs.declared.Part.{Part}
@@ -34,3 +38,9 @@ laid f part row = sets row frontBytes (rowsTo (λ r. f (part .from + r)) (part .
 pub record Held (part : Part) (room : ℕ) : Type 0 where
   pub low : part .from + part .used ≤ linkLimit
   pub fits : frontBytes + part .used * heldBytes (part .kind) ≤ room
+
+-- a sound network, and a row that begins with its table
+pub record Tabled (g : Net) (entries : List ℕ) : Type 0 where
+  pub ok : netVerdict g ≡ Taken
+  pub more : List ℕ
+  pub is : entries ≡ table g ++ more

@@ -5,6 +5,7 @@ use Prim.Native.Nat.{ℕ, _+_, _*_}
 use lib.Dec.{eqb, ltb}
 use lib.ListN.{length, drop}
 use Rattle.edition.specs.declared.Verdict.{Verdict}
+use Rattle.edition.specs.declared.Verdict.the-variants.{Taken, Refused}
 use Rattle.edition.specs.declared.Why.the-variants.{NoRoom}
 use Rattle.edition.specs.Stored.{blockBytes, headerKind, linksKind}
 use Rattle.edition.specs.Refusals.{made}
@@ -15,6 +16,8 @@ use Rattle.sound.specs.Sound.{netVerdict}
 use Rattle.swap.specs.Entry.{entry}
 use Rattle.block.specs.Block.{block}
 use Rattle.record.specs.Record.{headerRecord, linkRecord, entryRecord}
+use Rattle.archive.specs.declared.WriteAnswer.{WriteAnswer}
+use Rattle.archive.specs.declared.WriteAnswer.the-variants.{Is, Not}
 use Rattle.archive.specs.Parts.{blockCount, partAt}
 
 -- Record r of a kind.
@@ -42,6 +45,14 @@ fileLength g = blockCount (g .nodes) (g .links) * blockBytes
 -- 1 to 9, then 10 where fewer bytes are lent than the file needs.
 unfoldable pub writeVerdict : Net → List ℕ → Verdict
 writeVerdict g row = firstly (netVerdict g ∷ refuseIf (ltb (length row) (fileLength g)) NoRoom 0 ∷ [])
+
+-- The file's length where the verdict is taken, else the refusal.
+abbrev pub writeIf : Verdict → ℕ → WriteAnswer
+writeIf Taken length = Is length
+writeIf (Refused r) length = Not r
+
+unfoldable pub writeAnswer : Net → List ℕ → WriteAnswer
+writeAnswer g row = writeIf (writeVerdict g row) (fileLength g)
 
 -- What the lent bytes then hold: the file and what lay past it, or on a refusal what they held.
 unfoldable pub writtenRow : Net → List ℕ → List ℕ

@@ -1,26 +1,38 @@
 // The file of a network and depth: which block holds which records, and the writer.
 ghost use mathlib.Core.Path.{_≡_};
 ghost use Prim.Native.Nat.{_+_, _*_, _-_, _<_, _≤_, _^_, min};
-ghost use lib.ListN.{length};
+ghost use mathlib.Core.List.{_++_};
+ghost use lib.ListN.{length, drop};
 ghost use lib.Seq.{sets};
 ghost use Rattle.edition.specs.Limits.{nodeLimit, linkLimit};
-ghost use Rattle.edition.specs.Stored.{frontBytes, blockLimit};
-ghost use Rattle.network.specs.Network.{linksIn};
+ghost use Rattle.edition.specs.Stored.{frontBytes, blockBytes, blockLimit};
+ghost use Rattle.network.specs.Network.{netOf, linksIn};
 ghost use Rattle.table.specs.Work.{entryAt};
 ghost use Rattle.record.specs.Record.{recordPut};
-ghost use Rattle.archive.specs.Work.{heldBytes, recordIn, laid, Held};
+ghost use Rattle.archive.specs.Work.{heldBytes, recordIn, laid, Held, Tabled};
+ghost use Rattle.archive.specs.Writer.{blockOf, fileOf, fileLength, writeVerdict, writeAnswer, writtenRow};
+ghost use Rattle.edition.specs.declared.Verdict.the-variants.{Taken};
 ghost use Rattle.archive.specs.Parts.{blocksFor, linkBlocks, blockCount, partOf, partAt};
 use edition::Edition;
 use edition::Entry;
 use edition::Memory;
+use edition::Refusal;
 use edition::Search;
 use edition::Swap;
+use edition::Verdict;
+use edition::Why;
 
 // What a block holds: its kind, the number of its first record, and how many it holds.
 pub struct Part {
     pub kind: u8,
     pub from: usize,
     pub used: usize,
+}
+
+// The length of the file written, or why there is none.
+pub enum WriteAnswer {
+    Is(usize),
+    Not(Refusal),
 }
 
 // The smaller of two numbers.
@@ -75,7 +87,7 @@ fn part_at(n: usize, m: usize, i: usize) -> Part
     ensures { λ r. ⌜ r ≡ partAt n m i ⌝ }
 {
     if i == 0 {
-        return part_of(Edition::HEADER_KIND, 1, 1, 0);
+        return part_of(Edition::HEADER_KIND, Edition::HEADERS_A_BLOCK, 1, 0);
     }
     let before = blocks_for(Edition::LINKS_A_BLOCK, m);
     if i <= before {
@@ -185,5 +197,85 @@ fn put_records(
             Edition::FRONT_BYTES + r * size,
         );
         r += 1;
+    }
+}
+
+// Block i of the file, by the table of the network.
+fn write_block(
+    links: &[u16],
+    parents: &[u16],
+    search: Search,
+    entries: &[u64],
+    i: usize,
+    block: &mut [u8],
+)
+    requires { ⌜ Tabled (netOf (now links) (now parents) search) (now entries) × (i < blockCount (length (now parents)) (linksIn (now links))) × (length (now block) ≡ blockBytes) ⌝ }
+    ensures { λ _. ⌜ now (block .exit) ≡ blockOf (netOf (now (links .entry)) (now (parents .entry)) search) i ⌝ }
+{
+    let part = part_at(parents.len(), network::links_in(links), i);
+    put_records(links, parents, search, entries, part, block);
+    block::seal(part.kind, i as u16, part.used as u16, block);
+}
+
+// The length of a file of n nodes and m links.
+fn file_length(n: usize, m: usize) -> usize
+    requires { ⌜ (n ≤ 65536) × (m ≤ 65536) ⌝ }
+    ensures { λ r. ⌜ r ≡ blockCount n m * blockBytes ⌝ }
+{
+    block_count(n, m) * Edition::BLOCK_BYTES
+}
+
+// The blocks of the file, one after the other.
+fn write_blocks(links: &[u16], parents: &[u16], search: Search, entries: &[u64], file: &mut [u8])
+    requires { ⌜ Tabled (netOf (now links) (now parents) search) (now entries) × (fileLength (netOf (now links) (now parents) search) ≤ length (now file)) ⌝ }
+    ensures { λ _. ⌜ now (file .exit) ≡ fileOf (netOf (now (links .entry)) (now (parents .entry)) search) ++ drop (fileLength (netOf (now (links .entry)) (now (parents .entry)) search)) (now (file .entry)) ⌝ }
+{
+    let count = block_count(parents.len(), network::links_in(links));
+    let mut i = 0;
+    while i < count {
+        let at = i * Edition::BLOCK_BYTES;
+        write_block(
+            links,
+            parents,
+            search,
+            entries,
+            i,
+            &mut file[at..at + Edition::BLOCK_BYTES],
+        );
+        i += 1;
+    }
+}
+
+// Whether a file can be written: refusals 1 to 9, then 10 where fewer bytes are lent than the file needs.
+pub fn check_write(links: &[u16], parents: &[u16], search: Search, file: &[u8]) -> Verdict
+    ensures { λ r. ⌜ r ≡ writeVerdict (netOf (now (links .entry)) (now (parents .entry)) search) (now (file .entry)) ⌝ }
+{
+    let said = sound::verdict(links, parents, search);
+    let Verdict::Taken = said else {
+        return said;
+    };
+    let length = file_length(parents.len(), network::links_in(links));
+    rows::refuse_if(file.len() < length, Why::NoRoom, 0)
+}
+
+// The file of a network that is sound and has room, and its length.
+fn write_sound(links: &[u16], parents: &[u16], search: Search, file: &mut [u8]) -> usize
+    requires { ⌜ writeVerdict (netOf (now links) (now parents) search) (now file) ≡ Taken ⌝ }
+    ensures { λ r. ⌜ (r ≡ fileLength (netOf (now (links .entry)) (now (parents .entry)) search)) × (now (file .exit) ≡ fileOf (netOf (now (links .entry)) (now (parents .entry)) search) ++ drop (fileLength (netOf (now (links .entry)) (now (parents .entry)) search)) (now (file .entry))) ⌝ }
+{
+    let mut entries = [0u64; Memory::NODES * Memory::ENTRY];
+    table::table(links, parents, search, &mut entries);
+    write_blocks(links, parents, search, &entries, file);
+    file_length(parents.len(), network::links_in(links))
+}
+
+// The file of a network and depth into lent bytes, and its length. Nothing is written on a refusal, nor past the file.
+pub fn write(links: &[u16], parents: &[u16], search: Search, file: &mut [u8]) -> WriteAnswer
+    ensures { λ r. ⌜ (r ≡ writeAnswer (netOf (now (links .entry)) (now (parents .entry)) search) (now (file .entry))) × (now (file .exit) ≡ writtenRow (netOf (now (links .entry)) (now (parents .entry)) search) (now (file .entry))) ⌝ }
+{
+    let said = check_write(links, parents, search, file);
+    match said {
+        Verdict::Taken => WriteAnswer::Is(write_sound(links, parents, search, file)),
+        Verdict::Refused(why) => WriteAnswer::Not(why),
     }
 }

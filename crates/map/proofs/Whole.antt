@@ -5,29 +5,29 @@ use mathlib.Core.List.{List, [], _∷_, _++_}
 use Prim.Native.Nat.{ℕ, _+_, _*_, _<_, _≤_}
 use native.Mathlib.Omega.{arith}
 use lib.Dec.{eqb, ltb}
-use lib.ListN.{length, getD, take, drop, length-replicate}
+use lib.ListN.{length, getD, take, drop}
 use lib.Seq.{getD-drop}
 use borrow.Author.Tests.{ltb-true, le-ltb, lt-ltb}
 use Rattle.edition.specs.declared.Refusal.{Refusal}
 use Rattle.edition.specs.declared.Verdict.{Verdict}
 use Rattle.edition.specs.declared.Verdict.the-variants.{Taken, Refused}
 use Rattle.edition.specs.declared.Why.the-variants.{NoRoom}
-use Rattle.edition.specs.Limits.{noNode, nodeLimit, entryWidth, mapWords, wordBits}
+use Rattle.edition.specs.Limits.{noNode, entryWidth, mapWords, wordBits}
 use Rattle.edition.specs.Entries.{entryRow, noneState, bridgeState}
 use Rattle.rows.specs.Count.{onlyIf, rowWith}
 use Rattle.rows.specs.First.{refuseIf, firstly, foundOr}
 use Rattle.rows.proofs.Best.{first-cong}
 use Rattle.rows.proofs.Counting.{sum-cong}
 use Rattle.rows.proofs.Records.{rows-at, rows-cong}
-use Rattle.rows.proofs.Refusing.{head-refuses, if-passes, both-taken, none-left}
+use Rattle.rows.proofs.Refusing.{head-refuses}
 use Rattle.network.specs.Network.{Net}
 use Rattle.sound.specs.Sound.{netVerdict}
 use Rattle.sound.proofs.Sounds.{sound}
 use Rattle.sound.proofs.Holding.{nodes-few}
 use Rattle.swap.specs.Entry.{entry, state}
 use Rattle.swap.proofs.Stating.{entry-state}
-use Rattle.table.specs.Table.{table, tableVerdict, tableRow, entriesIn}
-use Rattle.table.proofs.Single.{bareRow}
+use Rattle.table.specs.Table.{table, tableVerdict, tableRow}
+use Rattle.table.proofs.Single.{bareRow, bare-verdict}
 use Rattle.table.proofs.Whole.{table-sound}
 use Rattle.map.specs.declared.MapAnswer.{MapAnswer}
 use Rattle.map.specs.declared.MapAnswer.the-variants.{Is, Not}
@@ -52,21 +52,11 @@ state-at g more x l =
     ∙ entry-state g x)))
 
 module _ (g : Net) where
-  -- a row for all nodes that there can be is never too short
-  bare-verdict : (v : Verdict) → netVerdict g ≡ v → tableVerdict g bareRow ≡ v
-  unfolding tableVerdict
-  bare-verdict Taken q =
-      both-taken _ _ q (both-taken _ _ (if-passes _ NoRoom 0 (le-ltb (entriesIn bareRow) (g .nodes) room)) none-left)
-    where
-      room : g .nodes ≤ entriesIn bareRow
-      room = omega (arith, nodes-few g (sound g q), length-replicate {A = ℕ} (nodeLimit * entryWidth) 0)
-  bare-verdict (Refused r) q = head-refuses _ _ r q
-
   net-refused : (r : Refusal) → tableVerdict g bareRow ≡ Refused r → netVerdict g ≡ Refused r
   net-refused r q = go (netVerdict g) refl
     where
       go : (v : Verdict) → netVerdict g ≡ v → netVerdict g ≡ Refused r
-      go v e = e ∙ (sym (bare-verdict v e) ∙ q)
+      go v e = e ∙ (sym (bare-verdict g v e) ∙ q)
 
   module _ (words : List ℕ) where
     -- a network that is refused

@@ -5,7 +5,7 @@ use mathlib.Core.List.{List}
 use Prim.Native.Nat.{ℕ, _*_, _<_, _≤_}
 use native.Mathlib.Omega.{arith}
 use lib.ListN.{length, set, replicate, length-replicate}
-use borrow.Author.Tests.{leb-false}
+use borrow.Author.Tests.{leb-false, le-ltb}
 use Rattle.edition.specs.declared.Verdict.{Verdict}
 use Rattle.edition.specs.declared.Verdict.the-variants.{Taken, Refused}
 use Rattle.edition.specs.declared.Refusal.{Refusal}
@@ -16,11 +16,11 @@ use Rattle.sound.specs.Sound.{netVerdict}
 use Rattle.sound.proofs.Sounds.{sound}
 use Rattle.sound.proofs.Holding.{nodes-few}
 use Rattle.swap.specs.Entry.{entry}
-use Rattle.table.specs.Table.{marked, freshAt, entryVerdict, entryAnswer}
+use Rattle.table.specs.Table.{marked, freshAt, tableVerdict, entriesIn, entryVerdict, entryAnswer}
 use Rattle.table.specs.declared.EntryAnswer.the-variants.{Is, Not}
 use Rattle.table.specs.Work.{Entries, entryAt}
-use Rattle.rows.proofs.Refusing.{head-taken, rest-taken, if-taken}
-use Rattle.edition.specs.declared.Why.the-variants.{NoRoute}
+use Rattle.rows.proofs.Refusing.{head-taken, rest-taken, if-taken, if-passes, both-taken, none-left, head-refuses}
+use Rattle.edition.specs.declared.Why.the-variants.{NoRoute, NoRoom}
 use lib.Seq.{getD-set-same}
 use Rattle.table.proofs.Slots.{entry-known}
 
@@ -34,6 +34,16 @@ bareRow = replicate (nodeLimit * entryWidth) 0
 
 pub bare-room : (n : ℕ) → n ≤ nodeLimit → n * entryWidth ≤ length bareRow
 bare-room n l = omega (arith, length-replicate {A = ℕ} (nodeLimit * entryWidth) 0)
+
+-- a row for all nodes that there can be is never too short
+pub bare-verdict : (g : Net) (v : Verdict) → netVerdict g ≡ v → tableVerdict g bareRow ≡ v
+unfolding tableVerdict
+bare-verdict g Taken q =
+    both-taken _ _ q (both-taken _ _ (if-passes _ NoRoom 0 (le-ltb (entriesIn bareRow) (g .nodes) room)) none-left)
+  where
+    room : g .nodes ≤ entriesIn bareRow
+    room = omega (arith, nodes-few g (sound g q), length-replicate {A = ℕ} (nodeLimit * entryWidth) 0)
+bare-verdict g (Refused r) q = head-refuses _ _ r q
 
 mark-set : (x : ℕ) → x < nodeLimit → marked (onlyMark x) x ≡ true
 unfolding marked

@@ -1,0 +1,43 @@
+-- `archive::write_block` meets its contract. Assumes nothing.
+use native.Mathlib.Omega.{arith}
+use Rattle.archive.proofs.Blocks.{sizes-known, block-number, used-small, part-held, block-made}
+use borrow.Author.Needs.{needs}
+use Rattle.archive.proofs.write_block.Statement.{statement}
+use Rattle.archive.proofs.write_block.Tie as tie
+
+links-in-requires : tie.Need-links-in-requires
+links-in-requires c κs = search needs
+
+part-at-requires : tie.Need-part-at-requires
+part-at-requires c κs = (omega (arith, sizes-known _ _ _ _ (c .before .before .before .before .before .pre .0) _ (c .before .before .before .before .before .pre .1) .0), omega (arith, sizes-known _ _ _ _ (c .before .before .before .before .before .pre .0) _ (c .before .before .before .before .before .pre .1) .1, c .links-in .ensures), omega (arith, block-number _ _ _ _ (c .before .before .before .before .before .pre .0) _ (c .before .before .before .before .before .pre .1)))
+
+put-records-requires : tie.Need-put-records-requires
+put-records-requires c κs = (part-held _ _ _ _ (c .before .before .before .before .before .before .before .pre .0) _ (c .before .before .before .before .before .before .before .pre .1) _ (c .before .before .links-in .ensures) _ (c .before .part-at .ensures) _ (c .before .before .before .before .before .before .before .pre .2), sizes-known _ _ _ _ (c .before .before .before .before .before .before .before .pre .0) _ (c .before .before .before .before .before .before .before .pre .1) .0, sizes-known _ _ _ _ (c .before .before .before .before .before .before .before .pre .0) _ (c .before .before .before .before .before .before .before .pre .1) .1)
+
+cast-seal : tie.Need-cast-seal
+cast-seal c = omega (arith, block-number _ _ _ _ (c .before .before .before .before .before .before .before .before .before .before .pre .0) _ (c .before .before .before .before .before .before .before .before .before .before .pre .1))
+
+cast-seal-2 : tie.Need-cast-seal-2
+cast-seal-2 c = omega (arith, used-small _ _ _ _ (c .before .before .before .before .before .before .before .before .before .before .before .pre .0) _ (c .before .before .before .before .before .before .before .before .before .before .before .pre .1) _ (c .before .before .before .before .before .before .links-in .ensures) _ (c .before .before .before .before .before .part-at .ensures))
+
+seal-requires : tie.Need-seal-requires
+seal-requires c κs = search needs
+
+same-length : tie.Need-same-length
+same-length c = search needs
+
+returns : tie.Need-returns
+returns c = block-made _ _ _ _ (c .before .before .before .before .before .before .before .before .before .before .before .before .before .before .before .pre .0) _ (c .before .before .before .before .before .before .before .before .before .before .before .before .before .before .before .pre .1) _ (c .before .before .before .before .before .before .before .before .before .before .links-in .ensures) _ (c .before .before .before .before .before .before .before .before .before .part-at .ensures) _ _ _ (c .before .before .before .before .before .before .before .before .before .before .before .before .before .before .before .pre .2) (c .before .before .before .before .before .before .before .put-records .ensures) (c .before .before .seal .ensures)
+
+pub write-block-spec : {M : Type 1} → statement M
+write-block-spec =
+    tie.close
+    (tie.spec
+    links-in-requires
+    part-at-requires
+    put-records-requires
+    cast-seal
+    cast-seal-2
+    seal-requires
+    same-length
+    returns)

@@ -1,0 +1,43 @@
+-- `archive::write_sound` meets its contract. Assumes nothing.
+use native.Mathlib.Omega.{arith}
+use Rattle.archive.proofs.Files.{write-room, write-numbers, write-tabled, length-is}
+use borrow.Author.Needs.{needs}
+use Rattle.archive.proofs.write_sound.Statement.{statement}
+use Rattle.archive.proofs.write_sound.Tie as tie
+
+slice-aggregate-table : tie.Need-slice-aggregate-table
+slice-aggregate-table c = search needs
+
+table-requires : tie.Need-table-requires
+table-requires c κs = search needs
+
+slice-aggregate-write-blocks : tie.Need-slice-aggregate-write-blocks
+slice-aggregate-write-blocks c = search needs
+
+write-blocks-requires : tie.Need-write-blocks-requires
+write-blocks-requires c κs = (write-tabled _ _ _ _ (c .before .before .before .before .before .before .before .before .pre) _ (c .before .before .before .table .ensures .1), write-room _ _ _ _ (c .before .before .before .before .before .before .before .before .pre))
+
+links-in-requires : tie.Need-links-in-requires
+links-in-requires c κs = search needs
+
+file-length-requires : tie.Need-file-length-requires
+file-length-requires c κs = (write-numbers _ _ _ _ (c .before .before .before .before .before .before .before .before .before .before .before .before .pre) .0, omega (arith, write-numbers _ _ _ _ (c .before .before .before .before .before .before .before .before .before .before .before .before .pre) .1, c .links-in .ensures))
+
+same-length : tie.Need-same-length
+same-length c = search needs
+
+returns : tie.Need-returns
+returns c = (length-is _ _ _ _ (c .before .before .before .before .before .before .before .before .before .before .before .before .before .pre) _ (c .before .links-in .ensures) _ (c .file-length .ensures), c .before .before .before .before .write-blocks .ensures)
+
+pub write-sound-spec : {M : Type 1} → statement M
+write-sound-spec =
+    tie.close
+    (tie.spec
+    slice-aggregate-table
+    table-requires
+    slice-aggregate-write-blocks
+    write-blocks-requires
+    links-in-requires
+    file-length-requires
+    same-length
+    returns)
