@@ -19,7 +19,7 @@ mostRoom = 40000
 
 -- The ops of the probe's table are 1 to this one.
 abbrev pub lastOp : ℕ
-lastOp = 5
+lastOp = 6
 
 -- The op that lends three rows, and the other one behind whose parents bytes follow.
 abbrev pub readOp : ℕ

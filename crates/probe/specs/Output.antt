@@ -29,6 +29,10 @@ pub record Holds (out : List ℕ) (at : ℕ) (text : List ℕ) : Type 0 where
 abbrev pub fillMark : ℕ
 fillMark = 7
 
+-- The byte that a lent file is filled with.
+abbrev pub byteMark : ℕ
+byteMark = 165
+
 -- Is all of a row from a place on as it was filled?
 unfoldable pub isKept : List ℕ → ℕ → Bool
 isKept row from = not (someTo (λ i. leb from i && not (eqb (getD row i 0) fillMark)) (length row))

@@ -2,6 +2,7 @@
 // leave in the lent rows. The rows are made once, and every case uses them again.
 mod changes;
 mod checking;
+mod files;
 mod input;
 mod limits;
 mod maps;

@@ -6,6 +6,7 @@ ghost use lib.ListN.{length};
 ghost use Rattle.probe.specs.Limits.{isOp, takesBytes};
 use crate::changes;
 use crate::checking;
+use crate::files;
 use crate::input;
 use crate::input::Head;
 use crate::maps;
@@ -36,7 +37,7 @@ pub fn is_op(op: u16) -> bool
     if op < CHECK {
         return false;
     }
-    op <= CHANGE_UNFILLED
+    op <= WRITE
 }
 
 // Whether bytes follow the parents, not link numbers.
@@ -154,6 +155,17 @@ pub fn answer(
     if op == CHANGE_UNFILLED {
         let named = input::first(parents, head.parents);
         return change(head, false, links, named, row, copy, out, at);
+    }
+    if op == WRITE {
+        return files::write(
+            input::first(links, head.rest),
+            input::first(parents, head.parents),
+            head.search,
+            file,
+            head.room,
+            out,
+            at,
+        );
     }
     output::flush(out, at)
 }

@@ -1,0 +1,126 @@
+// Op 6: the file.
+ghost use mathlib.Core.Path.{_≡_};
+ghost use Prim.Native.Nat.{_≤_};
+ghost use lib.ListN.{length};
+ghost use Rattle.rows.specs.Count.{rowWith};
+ghost use Rattle.probe.specs.Output.{byteMark};
+use crate::output;
+use archive::WriteAnswer;
+use edition::Search;
+
+// The byte that a lent file is filled with.
+const FILL: u8 = 165;
+
+// Bytes a line.
+const LINE: usize = 32;
+
+// Fills a row of bytes.
+fn fill(file: &mut [u8])
+    ensures { λ _. ⌜ now (file .exit) ≡ rowWith (λ i. byteMark) (length (now (file .entry))) (now (file .entry)) ⌝ }
+{
+    let mut i = 0;
+    while i < file.len() {
+        file[i] = FILL;
+        i += 1;
+    }
+}
+
+// Whether all bytes from a place on are as they were filled.
+fn is_kept(file: &[u8], from: usize) -> bool {
+    let mut i = from;
+    while i < file.len() {
+        if file[i] != FILL {
+            return false;
+        }
+        i += 1;
+    }
+    true
+}
+
+// Prints a byte, and ends the line behind the last one of a line.
+fn put_byte(out: &mut [u8], at: usize, byte: u8, i: usize) -> usize
+    ensures { λ r. ⌜ r ≤ length (now (out .exit)) ⌝ }
+{
+    let put = output::put_hex(out, at, byte);
+    if i % LINE == LINE - 1 {
+        return output::put_newline(out, put);
+    }
+    put
+}
+
+// Prints the bytes of a row, so many a line.
+fn put_bytes(out: &mut [u8], at: usize, file: &[u8]) -> usize
+    requires { ⌜ at ≤ length (now out) ⌝ }
+    ensures { λ r. ⌜ r ≤ length (now (out .exit)) ⌝ }
+{
+    let mut waits = at;
+    let mut i = 0;
+    while i < file.len() {
+        waits = put_byte(out, waits, file[i], i);
+        i += 1;
+    }
+    if file.len() % LINE == 0 {
+        return waits;
+    }
+    output::put_newline(out, waits)
+}
+
+// Prints `rest kept` or `rest changed` for a row of bytes from a place on.
+fn put_rest(out: &mut [u8], at: usize, file: &[u8], from: usize) -> usize
+    ensures { λ r. ⌜ r ≤ length (now (out .exit)) ⌝ }
+{
+    if is_kept(file, from) {
+        return output::put(out, at, b"rest kept\n");
+    }
+    output::put(out, at, b"rest changed\n")
+}
+
+// Prints the length of a file that was written, and its bytes.
+fn put_file(out: &mut [u8], at: usize, file: &[u8], size: usize) -> usize
+    ensures { λ r. ⌜ r ≤ length (now (out .exit)) ⌝ }
+{
+    let named = output::put(out, at, b" ok ");
+    let told = output::put_number(out, named, size as u64);
+    let ended = output::put_newline(out, told);
+    if file.len() < size {
+        return ended;
+    }
+    put_bytes(out, ended, &file[0..size])
+}
+
+// Prints what the writer answered, and what it left in the row.
+fn put_written(said: WriteAnswer, file: &[u8], out: &mut [u8], at: usize) -> usize
+    ensures { λ r. ⌜ r ≤ length (now (out .exit)) ⌝ }
+{
+    let named = output::put(out, at, b"write");
+    match said {
+        WriteAnswer::Is(size) => {
+            let listed = put_file(out, named, file, size);
+            put_rest(out, listed, file, size)
+        }
+        WriteAnswer::Not(refusal) => {
+            let listed = output::put_refusal(out, named, refusal);
+            put_rest(out, listed, file, 0)
+        }
+    }
+}
+
+// Prints the writer's answer and the bytes of the file, and whether the rest of the lent room is kept.
+pub fn write(
+    links: &[u16],
+    parents: &[u16],
+    search: Search,
+    file: &mut [u8],
+    room: usize,
+    out: &mut [u8],
+    at: usize,
+) -> usize
+    ensures { λ r. ⌜ r ≤ length (now (out .exit)) ⌝ }
+{
+    if file.len() < room {
+        return output::flush(out, at);
+    }
+    fill(file);
+    let said = archive::write(links, parents, search, &mut file[0..room]);
+    put_written(said, &file[0..room], out, at)
+}
