@@ -56,6 +56,15 @@ module _ (n m i k : ℕ) {l : ℕ} (q : m ≡ l) (p : k ≡ blockCount n m) wher
   pub count-end : k ≤ i → blockCount n l ≤ i
   count-end h = subst (λ j. j ≤ i) (p ∙ ap (blockCount n) q) h
 
+pub count-here : (n m i k : ℕ) → k ≡ blockCount n m → i < k → i < blockCount n m
+count-here n m i k q l = subst (λ j. i < j) q l
+
+pub count-past : (n m i k : ℕ) → k ≡ blockCount n m → k ≤ i → blockCount n m ≤ i
+count-past n m i k q l = subst (λ j. j ≤ i) q l
+
+pub blocks-room : (n m i room : ℕ) → blockCount n m * blockBytes ≤ room → (k : ℕ) → k ≡ blockCount n m → i < k → i * blockBytes + blockBytes ≤ room
+blocks-room n m i room h k q l = omega (arith, h, q, l)
+
 pub file-room : (links parents : List ℕ) (search : Search) (room : ℕ) → fileLength (netOf links parents search) ≤ room → blockCount (length parents) (linksIn links) * blockBytes ≤ room
 unfolding fileLength netOf
 file-room links parents search room l = l

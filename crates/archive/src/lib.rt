@@ -10,6 +10,8 @@ ghost use Rattle.network.specs.Network.{netOf, linksIn};
 ghost use Rattle.table.specs.Work.{entryAt};
 ghost use Rattle.record.specs.Record.{recordPut};
 ghost use Rattle.archive.specs.Work.{heldBytes, recordIn, laid, Held, Tabled};
+ghost use Rattle.rows.specs.First.{verdictTo};
+ghost use Rattle.archive.specs.Reader.{blockRefusal};
 ghost use Rattle.archive.specs.Writer.{blockOf, fileOf, fileLength, writeVerdict, writeAnswer, writtenRow};
 ghost use Rattle.edition.specs.declared.Verdict.the-variants.{Taken};
 ghost use Rattle.archive.specs.Parts.{blocksFor, linkBlocks, blockCount, partOf, partAt};
@@ -278,4 +280,39 @@ pub fn write(links: &[u16], parents: &[u16], search: Search, file: &mut [u8]) ->
         Verdict::Taken => WriteAnswer::Is(write_sound(links, parents, search, file)),
         Verdict::Refused(why) => WriteAnswer::Not(why),
     }
+}
+
+// What block i of a file of n nodes and m links is refused for.
+fn check_part(file: &[u8], n: usize, m: usize, i: usize) -> Verdict
+    requires { ⌜ (n ≤ 65536) × (m ≤ 65536) × (i ≤ 65535) × (i * blockBytes + blockBytes ≤ length (now file)) ⌝ }
+    ensures { λ r. ⌜ r ≡ blockRefusal (now (file .entry)) n m i ⌝ }
+{
+    let part = part_at(n, m, i);
+    let at = i * Edition::BLOCK_BYTES;
+    block::check_block(
+        part.kind,
+        i as u16,
+        part.used as u16,
+        &file[at..at + Edition::BLOCK_BYTES],
+    )
+}
+
+// The first refusal of the blocks of a file, in number order.
+fn check_blocks(file: &[u8], n: usize, m: usize) -> Verdict
+    requires { ⌜ (n ≤ 65536) × (m ≤ 65536) × (blockCount n m * blockBytes ≤ length (now file)) ⌝ }
+    ensures { λ r. ⌜ r ≡ verdictTo (blockRefusal (now (file .entry)) n m) (blockCount n m) ⌝ }
+{
+    let count = block_count(n, m);
+    let mut i = 0;
+    let said = loop {
+        if count <= i {
+            break Verdict::Taken;
+        }
+        let here = check_part(file, n, m, i);
+        let Verdict::Taken = here else {
+            break here;
+        };
+        i += 1;
+    };
+    said
 }
