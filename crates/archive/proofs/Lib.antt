@@ -5,3 +5,6 @@ pub mod Judging
 pub mod Laying
 pub mod Parting
 pub mod Records
+pub mod Pieces
+pub mod Reading
+pub mod Accepting

@@ -1,0 +1,49 @@
+-- A row as its pieces, and numbers in bytes and back. Assumes nothing.
+use mathlib.Core.Path.{_≡_, refl, sym, ap, _∙_}
+use mathlib.Core.List.{List, [], _∷_, _++_, append-nil}
+use Prim.Native.Nat.{ℕ, zero, suc, _+_, _*_, _/_, _%_, _<_, _≤_}
+use native.Mathlib.Nat.{suc-mul, zero-mul}
+use native.Mathlib.Omega.{arith}
+use lib.ListN.{length, getD, take, drop, length-drop}
+use lib.Seq.{take-add, drop-drop, take-take, take-suc, getD-take, getD-drop}
+use Rattle.rows.specs.Count.{rowsTo}
+use Rattle.rows.proofs.Records.{rows-at}
+use Rattle.block.specs.Bytes.{bytesOf, numberIn}
+
+-- c pieces of n each are the front of the row
+pub pieces : (n : ℕ) (s : List ℕ) (c : ℕ) → rowsTo (λ i. take n (drop (i * n) s)) c ≡ take (c * n) s
+unfolding rowsTo
+pieces n s zero = rw (zero-mul n)
+pieces n s (suc c) = rw (pieces n s c, suc-mul c n) (sym (take-add (c * n) n s))
+
+-- a piece of a front is that piece of the row
+pub piece-of : (a b c : ℕ) (l : List ℕ) → a + b ≤ c → take a (drop b (take c l)) ≡ take a (drop b l)
+piece-of a zero c l h = take-take a c l (omega arith)
+piece-of a (suc b) zero l h = absurd (omega arith)
+piece-of a (suc b) (suc c) [] h = refl
+piece-of a (suc b) (suc c) (x ∷ l) h = piece-of a b c l (omega arith)
+
+-- two pieces that touch
+pub join : (a b i : ℕ) (s : List ℕ) → take a (drop i s) ++ take b (drop (i + a) s) ≡ take (a + b) (drop i s)
+join a b i s =
+    ap (λ (l : List ℕ). take a (drop i s) ++ take b l) (sym (drop-drop a i s)) ∙ sym (take-add a b (drop i s))
+
+-- a number of a record in a row of records
+pub row-get : (f : ℕ → List ℕ) (size : ℕ) → ((x : ℕ) → length (f x) ≡ size) → (k x i d : ℕ) → x < k → i < size → getD (rowsTo f k) (x * size + i) d ≡ getD (f x) i d
+row-get f size h k x i d l m =
+    sym (getD-drop (x * size) (rowsTo f k) i d)
+    ∙ (sym (getD-take size (drop (x * size) (rowsTo f k)) i d m)
+    ∙ ap (λ (r : List ℕ). getD r i d)
+    (ap (λ (r : List ℕ). take size (drop (x * size) r)) (sym (append-nil (rowsTo f k))) ∙ rows-at f size h k [] x l))
+
+-- a number that is read and written again gives the bytes that stand there
+pub number-back : (k : ℕ) (s : List ℕ) (i : ℕ) → ((j : ℕ) → getD s j 0 < 256) → i + k ≤ length s → bytesOf k (numberIn s i k) ≡ take k (drop i s)
+unfolding bytesOf numberIn
+number-back zero s i h l = refl
+number-back (suc k) s i h l =
+    let n = numberIn s i k in
+    let b = getD s (i + k) 0 in
+    let high : (n * 256 + b) / 256 ≡ n = omega (arith, h (i + k)) in
+    let low : (n * 256 + b) % 256 ≡ b = omega (arith, h (i + k)) in
+    rw (high, low, number-back k s i h (omega arith), ← getD-drop i s k 0)
+    (sym (take-suc (drop i s) k 0 (omega (arith, length-drop i s))))
