@@ -24,7 +24,7 @@ use Rattle.record.specs.Record.{entryRecord}
 use Rattle.archive.specs.Parts.{linkBlocks, blockCount, partOf, partAt, linkPlace, entryPlace}
 use Rattle.archive.specs.Writer.{recordOf, blockOf, fileOf}
 use Rattle.archive.specs.Reader.{nodesRead, linksRead, netRead, blockAt, blockRefusal, badEntry, Rows, restVerdict, readVerdict}
-use Rattle.archive.proofs.Pieces.{pieces, piece-of}
+use Rattle.archive.proofs.Pieces.{pieces, record-part}
 use Rattle.archive.proofs.Reading.{nodes-read, links-read, link-back, header-back}
 
 -- where a record stands, by its block and its place there
@@ -48,15 +48,6 @@ module _ (file : List ℕ) (bytes : (i : ℕ) → getD file i 0 < 256) where
       go false e =
           omega (arith, List·getD-eq-default (take blockBytes (drop (i * blockBytes) file)) 0 {n = j} (omega (arith, length-take blockBytes (drop (i * blockBytes) file), ltb-false j blockBytes e)))
 
-  -- a record of a block is a part of the file
-  record-part : (i at size : ℕ) → frontBytes + at + size ≤ blockBytes → take size (drop at (drop frontBytes (blockAt file i))) ≡ take size (drop (i * blockBytes + frontBytes + at) file)
-  unfolding blockAt
-  record-part i at size h =
-      let sum : i * blockBytes + (frontBytes + at) ≡ i * blockBytes + frontBytes + at = omega arith in
-      ap (take size) (drop-drop at frontBytes (take blockBytes (drop (i * blockBytes) file)))
-      ∙ (piece-of size (frontBytes + at) blockBytes (drop (i * blockBytes) file) (omega arith)
-      ∙ ap (take size) (drop-drop (frontBytes + at) (i * blockBytes) file ∙ ap (λ (k : ℕ). drop k file) sum))
-
   -- a block that is taken, of which every record is the writer's, is the writer's
   block-records : (kind i used : ℕ) (f : ℕ → List ℕ) → blockVerdict kind i used (blockAt file i) ≡ Taken → ((r : ℕ) → r < used → f r ≡ take (recordBytes kind) (drop (i * blockBytes + frontBytes + r * recordBytes kind) file)) → blockAt file i ≡ block kind i used (rowsTo f used)
   block-records kind i used f t h =
@@ -66,7 +57,7 @@ module _ (file : List ℕ) (bytes : (i : ℕ) → getD file i 0 < 256) where
       (sym (pieces (recordBytes kind) (drop frontBytes (blockAt file i)) used)
       ∙ rows-cong (λ r. take (recordBytes kind) (drop (r * recordBytes kind) (drop frontBytes (blockAt file i)))) f used
       (λ r l.
-      record-part i (r * recordBytes kind) (recordBytes kind) (omega (arith, fits, mul-le-mul-right {m = suc r} {n = used} (recordBytes kind) l))
+      record-part file i (r * recordBytes kind) (recordBytes kind) (omega (arith, fits, mul-le-mul-right {m = suc r} {n = used} (recordBytes kind) l))
       ∙ sym (h r l)))
 
   abbrev n : ℕ

@@ -8,3 +8,4 @@ pub mod Records
 pub mod Pieces
 pub mod Reading
 pub mod Accepting
+pub mod Filed

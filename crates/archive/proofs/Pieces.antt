@@ -8,7 +8,9 @@ use lib.ListN.{length, getD, take, drop, length-drop}
 use lib.Seq.{take-add, drop-drop, take-take, take-suc, getD-take, getD-drop}
 use Rattle.rows.specs.Count.{rowsTo}
 use Rattle.rows.proofs.Records.{rows-at}
+use Rattle.edition.specs.Stored.{blockBytes, frontBytes}
 use Rattle.block.specs.Bytes.{bytesOf, numberIn}
+use Rattle.archive.specs.Reader.{blockAt}
 
 -- c pieces of n each are the front of the row
 pub pieces : (n : ℕ) (s : List ℕ) (c : ℕ) → rowsTo (λ i. take n (drop (i * n) s)) c ≡ take (c * n) s
@@ -47,3 +49,20 @@ number-back (suc k) s i h l =
     let low : (n * 256 + b) % 256 ≡ b = omega (arith, h (i + k)) in
     rw (high, low, number-back k s i h (omega arith), ← getD-drop i s k 0)
     (sym (take-suc (drop i s) k 0 (omega (arith, length-drop i s))))
+
+-- a record of a block is a part of the file
+pub record-part : (file : List ℕ) (i at size : ℕ) → frontBytes + at + size ≤ blockBytes → take size (drop at (drop frontBytes (blockAt file i))) ≡ take size (drop (i * blockBytes + frontBytes + at) file)
+unfolding blockAt
+record-part file i at size h =
+    let sum : i * blockBytes + (frontBytes + at) ≡ i * blockBytes + frontBytes + at = omega arith in
+    ap (take size) (drop-drop at frontBytes (take blockBytes (drop (i * blockBytes) file)))
+    ∙ (piece-of size (frontBytes + at) blockBytes (drop (i * blockBytes) file) (omega arith)
+    ∙ ap (take size) (drop-drop (frontBytes + at) (i * blockBytes) file ∙ ap (λ (k : ℕ). drop k file) sum))
+
+-- a number in a piece is that number in the row
+pub number-part : (s : List ℕ) (p k q w : ℕ) → q + w ≤ k → numberIn (take k (drop p s)) q w ≡ numberIn s (p + q) w
+unfolding numberIn
+number-part s p k q zero h = refl
+number-part s p k q (suc w) h =
+    let sum : p + (q + w) ≡ p + q + w = omega arith in
+    rw (number-part s p k q w (omega arith), getD-take k (drop p s) (q + w) 0 (omega arith), getD-drop p s (q + w) 0, sum)
