@@ -7,7 +7,7 @@ use native.Mathlib.Nat.{mul-le-mul-right}
 use native.Mathlib.Omega.{arith}
 use lib.Dec.{eqb, leb, ltb}
 use lib.ListN.{length, getD, take, drop, length-take, List·getD-eq-default}
-use lib.Seq.{take-all, drop-drop, getD-take, getD-drop}
+use lib.Seq.{take-all, getD-take, getD-drop}
 use borrow.Author.Tests.{eqb-true, eqb-false, not-false, ltb-true, ltb-false, leb-false}
 use Rattle.edition.specs.declared.Verdict.the-variants.{Taken}
 use Rattle.edition.specs.declared.Why.the-variants.{BadLength, BadEntry}

@@ -1,19 +1,19 @@
 -- What stands in a file that the writer made: its blocks, and in them its records. Of every network. Assumes nothing.
-use mathlib.Core.Path.{_≡_, refl, sym, subst, ap, ap₂, _∙_}
-use mathlib.Core.Bool.{Bool, true, false, cond}
-use mathlib.Core.List.{List, [], _∷_, _++_, append-nil}
-use Prim.Native.Nat.{ℕ, suc, _+_, _*_, _-_, _/_, _%_, _<_, _≤_, min}
+use mathlib.Core.Path.{_≡_, refl, sym, subst, ap, _∙_}
+use mathlib.Core.Bool.{Bool, true, false}
+use mathlib.Core.List.{List, [], _++_, append-nil}
+use Prim.Native.Nat.{ℕ, suc, _+_, _*_, _-_, _/_, _%_, _<_, _≤_}
 use native.Mathlib.Nat.{mul-le-mul-right}
 use native.Mathlib.Omega.{arith}
-use lib.Dec.{eqb, leb, ltb}
-use lib.ListN.{length, getD, take, drop, replicate, length-append, length-replicate}
+use lib.Dec.{eqb, leb}
+use lib.ListN.{length, take, drop, replicate, length-append, length-replicate}
 use borrow.Author.Tests.{eqb-true, eqb-false, ne-eqb, leb-true, leb-false, le-leb, lt-leb}
 use Rattle.edition.specs.Stored.{blockBytes, frontBytes, payloadBytes, headerKind, linksKind, tableKind, headerBytes, linkBytes, entryBytes, headersABlock, linksABlock, entriesABlock}
 use Rattle.rows.specs.Count.{rowsTo}
 use Rattle.rows.proofs.Records.{rows-at, rows-length}
 use Rattle.network.specs.Network.{Net}
 use Rattle.swap.specs.Entry.{entry}
-use Rattle.block.specs.Bytes.{bytesOf, checksum}
+use Rattle.block.specs.Bytes.{bytesOf}
 use Rattle.block.specs.Block.{recordBytes, front, filled, block}
 use Rattle.record.specs.Record.{headerRecord, linkRecord, entryRecord}
 use Rattle.record.proofs.Putting.{header-size, link-size, entry-size}

@@ -9,3 +9,6 @@ pub mod Pieces
 pub mod Reading
 pub mod Accepting
 pub mod Filed
+pub mod Returning
+pub mod Depth
+pub mod Taking

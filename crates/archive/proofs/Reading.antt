@@ -18,11 +18,12 @@ use Rattle.archive.specs.Reader.{nodesRead, linksRead, searchRead, linkR
 use Rattle.archive.proofs.Pieces.{join, row-get, number-back}
 
 module _ (file : List ℕ) where
-  numbersAt : ℕ → List ℕ
+  -- the numbers of the record of link e
+  abbrev pub numbersAt : ℕ → List ℕ
   numbersAt e = rowsTo (λ i. numberIn file (linkPlace e + 2 * i) 2 ∷ []) linkWidth
 
-  numbers-four : (e : ℕ) → length (numbersAt e) ≡ linkWidth
-  unfolding numbersAt rowsTo
+  pub numbers-four : (e : ℕ) → length (numbersAt e) ≡ linkWidth
+  unfolding rowsTo
   numbers-four e = refl
 
   -- as many nodes and links as the header says
@@ -31,7 +32,7 @@ module _ (file : List ℕ) where
   nodes-read = omega (arith, rows-length (λ x. numberIn file (entryPlace (linksRead file) x) 2 ∷ []) 1 (λ x. refl) (nodesRead file))
 
   pub links-read : netRead file .links ≡ linksRead file
-  unfolding netRead netOf linkRow numbersAt
+  unfolding netRead netOf linkRow
   links-read = omega (arith, rows-length numbersAt linkWidth numbers-four (linksRead file))
 
   pub search-read : netRead file .search ≡ searchRead file
@@ -40,13 +41,13 @@ module _ (file : List ℕ) where
 
   -- number i of the record of link e
   field-read : (e i : ℕ) → e < linksRead file → i < linkWidth → fieldIn (linkRow file) e i ≡ getD (numbersAt e) i 0
-  unfolding fieldIn onlyIf linkRow numbersAt
+  unfolding fieldIn onlyIf linkRow
   field-read e i l m =
       rw (lt-ltb e (linksIn (rowsTo numbersAt (linksRead file))) (omega (arith, rows-length numbersAt linkWidth numbers-four (linksRead file))))
       (row-get numbersAt linkWidth numbers-four (linksRead file) e i 0 l m)
 
   link-read : (e : ℕ) → e < linksRead file → netRead file .link e ≡ record { first = numberIn file (linkPlace e + 0) 2; second = numberIn file (linkPlace e + 2) 2; length = numberIn file (linkPlace e + 4) 2; mark = numberIn file (linkPlace e + 6) 2 }
-  unfolding netRead netOf linkIn numbersAt rowsTo
+  unfolding netRead netOf linkIn rowsTo
   link-read e l =
       λ i.
       record {

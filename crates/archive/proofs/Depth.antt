@@ -1,0 +1,45 @@
+-- The depth of a file that is taken: what bytes 14 and 15 say, and the whole search only for 65,535. Assumes nothing.
+use mathlib.Core.Path.{_≡_, refl}
+use mathlib.Core.Bool.{Bool, true, false}
+use mathlib.Core.List.{List}
+use Prim.Native.Nat.{ℕ, _≤_}
+use lib.Dec.{ltb}
+use borrow.Author.Tests.{eqb-true, ltb-false, not-false}
+use Rattle.edition.specs.declared.Verdict.the-variants.{Taken}
+use Rattle.edition.specs.declared.Why.the-variants.{BadDepth}
+use Rattle.edition.specs.Limits.{wholeSearch}
+use Rattle.edition.specs.Stored.{editionLimits}
+use Rattle.rows.proofs.Refusing.{head-taken, rest-taken, if-taken}
+use Rattle.network.specs.Network.{netOf}
+use Rattle.network.specs.Records.{badDepth, sizeVerdict}
+use Rattle.block.specs.Bytes.{numberIn}
+use Rattle.archive.specs.Reader.{searchRead, netRead, Rows, headVerdict, readVerdict}
+
+-- a depth that is not bad is the whole search or at most 510
+depth-cases : (depth : ℕ) → badDepth editionLimits depth ≡ false → (depth ≡ wholeSearch → ⊥) → depth ≤ 510
+unfolding badDepth
+depth-cases depth h other = go (ltb 510 depth) refl
+  where
+    go : (b : Bool) → ltb 510 depth ≡ b → depth ≤ 510
+    go true e = absurd (other (eqb-true depth wholeSearch (not-false _ (rw e at h))))
+    go false e = ltb-false 510 depth e
+
+module _ (file : List ℕ) (rows : Rows) (h : readVerdict file rows ≡ Taken) where
+  -- the depth of the network read is what stands in bytes 14 and 15
+  pub depth-read : netRead file .search .depth ≡ numberIn file 14 2
+  unfolding netRead netOf searchRead
+  depth-read = refl
+
+  -- it is the whole search exactly where 65,535 stands there
+  pub whole-read : (searchRead file .depth ≡ wholeSearch → numberIn file 14 2 ≡ 65535) × (numberIn file 14 2 ≡ 65535 → searchRead file .depth ≡ wholeSearch)
+  unfolding searchRead
+  whole-read = (λ e. e, λ e. e)
+
+  -- what else stands there is at most 510
+  pub depth-limited : (numberIn file 14 2 ≡ 65535 → ⊥) → numberIn file 14 2 ≤ 510
+  unfolding readVerdict headVerdict sizeVerdict searchRead
+  depth-limited other =
+      let sizes = head-taken _ _ (rest-taken _ _ (rest-taken _ _ (head-taken _ _ h))) in
+      depth-cases (numberIn file 14 2)
+      (if-taken _ BadDepth 0 (head-taken _ _ (rest-taken _ _ (rest-taken _ _ (rest-taken _ _ sizes)))))
+      other
