@@ -19,7 +19,7 @@ pieces n s zero = rw (zero-mul n)
 pieces n s (suc c) = rw (pieces n s c, suc-mul c n) (sym (take-add (c * n) n s))
 
 -- a piece of a front is that piece of the row
-pub piece-of : (a b c : ℕ) (l : List ℕ) → a + b ≤ c → take a (drop b (take c l)) ≡ take a (drop b l)
+piece-of : (a b c : ℕ) (l : List ℕ) → a + b ≤ c → take a (drop b (take c l)) ≡ take a (drop b l)
 piece-of a zero c l h = take-take a c l (omega arith)
 piece-of a (suc b) zero l h = absurd (omega arith)
 piece-of a (suc b) (suc c) [] h = refl

@@ -35,7 +35,7 @@ module _ (file : List ℕ) where
   unfolding netRead netOf linkRow
   links-read = omega (arith, rows-length numbersAt linkWidth numbers-four (linksRead file))
 
-  pub search-read : netRead file .search ≡ searchRead file
+  search-read : netRead file .search ≡ searchRead file
   unfolding netRead netOf
   search-read = refl
 
