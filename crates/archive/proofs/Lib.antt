@@ -1,6 +1,7 @@
 pub mod Blocks
 pub mod Files
 pub mod Filing
+pub mod Heading
 pub mod Judging
 pub mod Laying
 pub mod Parting

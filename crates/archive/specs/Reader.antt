@@ -20,6 +20,7 @@ use Rattle.swap.specs.Entry.{entry}
 use Rattle.table.specs.Table.{table, entriesIn}
 use Rattle.block.specs.Bytes.{numberIn}
 use Rattle.block.specs.Block.{blockVerdict}
+use Rattle.archive.specs.declared.Header.{Header}
 use Rattle.archive.specs.Parts.{blockCount, partAt, linkPlace, entryPlace}
 use Rattle.record.specs.Record.{entryRecord}
 
@@ -32,6 +33,9 @@ linksRead file = numberIn file 10 2
 
 unfoldable pub searchRead : List ℕ → Search
 searchRead file = record { root = numberIn file 12 2; depth = numberIn file 14 2 }
+
+unfoldable pub headRead : List ℕ → Header
+headRead file = record { nodes = nodesRead file; links = linksRead file; search = searchRead file }
 
 -- The row of links: two ends, length and service mark of each.
 unfoldable pub linkRow : List ℕ → List ℕ

@@ -11,10 +11,10 @@ ghost use Rattle.table.specs.Work.{entryAt};
 ghost use Rattle.record.specs.Record.{recordPut};
 ghost use Rattle.archive.specs.Work.{heldBytes, recordIn, laid, Held, Tabled};
 ghost use Rattle.rows.specs.First.{verdictTo};
-ghost use Rattle.archive.specs.Reader.{blockRefusal};
+ghost use Rattle.archive.specs.Reader.{blockRefusal, headRead, unequal, headVerdict};
 ghost use Rattle.archive.specs.Writer.{blockOf, fileOf, fileLength, writeVerdict, writeAnswer, writtenRow};
 ghost use Rattle.edition.specs.declared.Verdict.the-variants.{Taken};
-ghost use Rattle.archive.specs.Parts.{blocksFor, linkBlocks, blockCount, partOf, partAt};
+ghost use Rattle.archive.specs.Parts.{blocksFor, linkBlocks, blockCount, partOf, partAt, linkPlace, entryPlace};
 use edition::Edition;
 use edition::Entry;
 use edition::Memory;
@@ -29,6 +29,13 @@ pub struct Part {
     pub kind: u8,
     pub from: usize,
     pub used: usize,
+}
+
+// What a file's header says: how many nodes and links there are, the root and the depth.
+pub struct Header {
+    pub nodes: usize,
+    pub links: usize,
+    pub search: Search,
 }
 
 // The length of the file written, or why there is none.
@@ -315,4 +322,66 @@ fn check_blocks(file: &[u8], n: usize, m: usize) -> Verdict
         i += 1;
     };
     said
+}
+
+// What a file's header says.
+fn header_of(file: &[u8]) -> Header
+    ensures { λ r. ⌜ r ≡ headRead (now (file .entry)) ⌝ }
+{
+    let search = Search {
+        root: record::two_at(file, 12),
+        depth: record::two_at(file, 14),
+    };
+    Header {
+        nodes: record::two_at(file, 8) as usize,
+        links: record::two_at(file, 10) as usize,
+        search,
+    }
+}
+
+// Whether a file is empty or not a multiple of 512 bytes.
+fn is_unequal(file: &[u8]) -> bool
+    ensures { λ r. ⌜ r ≡ unequal (now (file .entry)) ⌝ }
+{
+    if file.len() == 0 {
+        return true;
+    }
+    file.len() % Edition::BLOCK_BYTES != 0
+}
+
+// The length, the header's block, and 1 to 4 from its numbers at edition 1's limits.
+fn check_head(file: &[u8]) -> Verdict
+    ensures { λ r. ⌜ r ≡ headVerdict (now (file .entry)) ⌝ }
+{
+    let whole = rows::refuse_if(is_unequal(file), Why::BadLength, 0);
+    let Verdict::Taken = whole else {
+        return whole;
+    };
+    let first = check_part(file, 0, 0, 0);
+    let Verdict::Taken = first else {
+        return first;
+    };
+    let head = header_of(file);
+    network::check_sizes(Edition::limits(), head.nodes, head.links, head.search)
+}
+
+// Where the record of link e stands in a file.
+fn link_place(e: usize) -> usize
+    requires { ⌜ e ≤ 65536 ⌝ }
+    ensures { λ r. ⌜ r ≡ linkPlace e ⌝ }
+{
+    (1 + e / Edition::LINKS_A_BLOCK) * Edition::BLOCK_BYTES
+        + Edition::FRONT_BYTES
+        + e % Edition::LINKS_A_BLOCK * Edition::LINK_BYTES
+}
+
+// Where the entry of x stands in a file of m links.
+fn entry_place(m: usize, x: usize) -> usize
+    requires { ⌜ (m ≤ 65536) × (x ≤ 65536) ⌝ }
+    ensures { λ r. ⌜ r ≡ entryPlace m x ⌝ }
+{
+    let before = blocks_for(Edition::LINKS_A_BLOCK, m);
+    (1 + before + x / Edition::ENTRIES_A_BLOCK) * Edition::BLOCK_BYTES
+        + Edition::FRONT_BYTES
+        + x % Edition::ENTRIES_A_BLOCK * Edition::ENTRY_BYTES
 }

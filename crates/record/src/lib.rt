@@ -3,10 +3,10 @@ ghost use mathlib.Core.Path.{_≡_};
 ghost use mathlib.Core.List.{_++_};
 ghost use Prim.Native.Nat.{_+_, _≤_};
 ghost use lib.Dec.{leb};
-ghost use lib.ListN.{length};
+ghost use lib.ListN.{length, getD};
 ghost use lib.Seq.{sets};
 ghost use Rattle.edition.specs.Stored.{headerBytes, linkBytes, entryBytes};
-ghost use Rattle.block.specs.Bytes.{bytesOf};
+ghost use Rattle.block.specs.Bytes.{bytesOf, numberIn};
 ghost use Rattle.record.specs.Record.{headerRecord, linkRecord, entryRecord, recordPut};
 use edition::Edition;
 use edition::Entry;
@@ -115,4 +115,21 @@ pub fn put_entry(bytes: &mut [u8], at: usize, parent: u16, entry: Entry)
     put_front(bytes, at, parent as u64, entry.state, 0);
     put_four(bytes, at + 4, sum.link, incr.link, max.link, 0);
     put_costs(bytes, at + 12, sum.cost, incr.cost, max.cost);
+}
+
+// The byte at place i; 0 past the end.
+fn byte_at(bytes: &[u8], i: usize) -> u8
+    ensures { λ r. ⌜ r ≡ getD (now (bytes .entry)) i 0 ⌝ }
+{
+    if i < bytes.len() { bytes[i] } else { 0 }
+}
+
+// The number in the two bytes from a place on; bytes past the end count as 0.
+pub fn two_at(bytes: &[u8], at: usize) -> u16
+    ensures { λ r. ⌜ r ≡ numberIn (now (bytes .entry)) at 2 ⌝ }
+{
+    if bytes.len() <= at {
+        return 0;
+    }
+    byte_at(bytes, at) as u16 * 256 + byte_at(bytes, at + 1) as u16
 }

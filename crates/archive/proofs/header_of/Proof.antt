@@ -1,0 +1,50 @@
+-- `archive::header_of` meets its contract. Assumes nothing.
+use native.Mathlib.Omega.{arith}
+use mathlib.Core.Path.{refl, sym, ap, _∙_}
+use Prim.Native.Nat.{_+_, _*_, _/_, _%_}
+use borrow.Author.Tests.{eq-eqb, ne-eqb}
+use Rattle.edition.specs.Stored.{blockBytes}
+use Rattle.archive.specs.Parts.{linkPlace, entryPlace}
+use Rattle.archive.specs.Reader.{nodesRead, linksRead, searchRead, headRead, unequal}
+use Rattle.archive.proofs.Parting.{some-blocks}
+use Rattle.archive.proofs.Heading.{length-refuses, first-there, block-refuses, sizes-decide}
+use borrow.Author.Needs.{needs}
+use Rattle.archive.proofs.header_of.Statement.{statement}
+use Rattle.archive.proofs.header_of.Tie as tie
+use Rattle.archive.proofs.header_of.Reads as reads
+use Rattle.archive.proofs.header_of.Lts as lts
+use Rattle.record.proofs.two_at.Reads as two-at-reads
+
+two-at-requires : tie.Need-two-at-requires
+two-at-requires c κs = search needs
+
+two-at-requires-2 : tie.Need-two-at-requires-2
+two-at-requires-2 c κs = search needs
+
+two-at-requires-3 : tie.Need-two-at-requires-3
+two-at-requires-3 c κs = search needs
+
+cast-t5 : tie.Need-cast-t5
+cast-t5 c = search needs
+
+two-at-requires-4 : tie.Need-two-at-requires-4
+two-at-requires-4 c κs = search needs
+
+cast-t6 : tie.Need-cast-t6
+cast-t6 c = search needs
+
+returns : tie.Need-returns
+unfolding headRead nodesRead linksRead searchRead
+returns c = cc
+
+pub header-of-spec : {M : Type 1} → statement M
+header-of-spec =
+    tie.close
+    (tie.spec
+    two-at-requires
+    two-at-requires-2
+    two-at-requires-3
+    cast-t5
+    two-at-requires-4
+    cast-t6
+    returns)

@@ -1,0 +1,38 @@
+-- `archive::link_place` meets its contract. Assumes nothing.
+use native.Mathlib.Omega.{arith}
+use mathlib.Core.Path.{refl, sym, ap, _∙_}
+use Prim.Native.Nat.{_+_, _*_, _/_, _%_}
+use borrow.Author.Tests.{eq-eqb, ne-eqb}
+use Rattle.edition.specs.Stored.{blockBytes}
+use Rattle.archive.specs.Parts.{linkPlace, entryPlace}
+use Rattle.archive.specs.Reader.{nodesRead, linksRead, searchRead, headRead, unequal}
+use Rattle.archive.proofs.Parting.{some-blocks}
+use Rattle.archive.proofs.Heading.{length-refuses, first-there, block-refuses, sizes-decide}
+use borrow.Author.Needs.{needs}
+use Rattle.archive.proofs.link_place.Statement.{statement}
+use Rattle.archive.proofs.link_place.Tie as tie
+use Rattle.archive.proofs.link_place.Reads as reads
+use Rattle.archive.proofs.link_place.Lts as lts
+
+add-result : tie.Need-add-result
+add-result c = search needs
+
+mul-result : tie.Need-mul-result
+mul-result c = search needs
+
+add-result-2 : tie.Need-add-result-2
+add-result-2 c = search needs
+
+mul-result-2 : tie.Need-mul-result-2
+mul-result-2 c = search needs
+
+add-result-3 : tie.Need-add-result-3
+add-result-3 c = search needs
+
+returns : tie.Need-returns
+unfolding linkPlace
+returns c = refl
+
+pub link-place-spec : {M : Type 1} → statement M
+link-place-spec =
+    tie.close (tie.spec add-result mul-result add-result-2 mul-result-2 add-result-3 returns)

@@ -1,0 +1,23 @@
+-- `record::byte_at` meets its contract. Assumes nothing.
+use native.Mathlib.Omega.{arith}
+use mathlib.Core.Path.{sym, ap₂, _∙_}
+use Prim.Native.Nat.{_+_, _*_}
+use lib.ListN.{List·getD-eq-default}
+use Rattle.record.proofs.Getting.{two-past, two-is}
+use borrow.Author.Needs.{needs}
+use Rattle.record.proofs.byte_at.Statement.{statement}
+use Rattle.record.proofs.byte_at.Tie as tie
+use Rattle.record.proofs.byte_at.Reads as reads
+use Rattle.record.proofs.byte_at.Lts as lts
+
+shared-slice-read-result : tie.Need-shared-slice-read-result
+shared-slice-read-result c = search needs
+
+returns : tie.Need-returns
+returns c = search needs
+
+returns-2 : tie.Need-returns-2
+returns-2 c = sym (List·getD-eq-default (c .before .args .bytes .now) _ (c .if1 .left))
+
+pub byte-at-spec : {M : Type 1} → statement M
+byte-at-spec = tie.close (tie.spec shared-slice-read-result returns returns-2)

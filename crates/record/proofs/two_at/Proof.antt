@@ -1,0 +1,53 @@
+-- `record::two_at` meets its contract. Assumes nothing.
+use native.Mathlib.Omega.{arith}
+use mathlib.Core.Path.{sym, ap₂, _∙_}
+use Prim.Native.Nat.{_+_, _*_}
+use lib.ListN.{List·getD-eq-default}
+use Rattle.record.proofs.Getting.{two-past, two-is}
+use borrow.Author.Needs.{needs}
+use Rattle.record.proofs.two_at.Statement.{statement}
+use Rattle.record.proofs.two_at.Tie as tie
+use Rattle.record.proofs.two_at.Reads as reads
+use Rattle.record.proofs.two_at.Lts as lts
+use Rattle.record.proofs.byte_at.Reads as byte-at-reads
+
+returns : tie.Need-returns
+returns c = two-past (c .before .before .args .bytes .now) _ (c .if1 .taken)
+
+byte-at-requires : tie.Need-byte-at-requires
+byte-at-requires c κs = search needs
+
+cast-result : tie.Need-cast-result
+cast-result c = search needs
+
+mul-result : tie.Need-mul-result
+mul-result c = search needs
+
+add-byte-at : tie.Need-add-byte-at
+add-byte-at c = search needs
+
+byte-at-requires-2 : tie.Need-byte-at-requires-2
+byte-at-requires-2 c κs = search needs
+
+cast-result-2 : tie.Need-cast-result-2
+cast-result-2 c = search needs
+
+add-result : tie.Need-add-result
+add-result c = search needs
+
+returns-2 : tie.Need-returns-2
+returns-2 c = two-is _ _ _ _ (c .before .byte-at .ensures) (c .byte-at2 .ensures)
+
+pub two-at-spec : {M : Type 1} → statement M
+two-at-spec =
+    tie.close
+    (tie.spec
+    returns
+    byte-at-requires
+    cast-result
+    mul-result
+    add-byte-at
+    byte-at-requires-2
+    cast-result-2
+    add-result
+    returns-2)
