@@ -1,5 +1,6 @@
 pub mod Blocks
 pub mod Files
+pub mod Comparing
 pub mod Filing
 pub mod Heading
 pub mod Judging

@@ -2,13 +2,13 @@
 use mathlib.Core.Bool.{cond}
 use mathlib.Core.Path.{_≡_}
 use mathlib.Core.List.{List, _++_}
-use Prim.Native.Nat.{ℕ, _+_, _*_, _≤_}
+use Prim.Native.Nat.{ℕ, _+_, _*_, _/_, _%_, _≤_}
 use lib.Dec.{eqb}
 use lib.ListN.{length, getD}
 use lib.Seq.{sets}
 use Rattle.edition.specs.declared.Search.{Search}
 use Rattle.edition.specs.declared.Verdict.the-variants.{Taken}
-use Rattle.edition.specs.Limits.{noLink, linkLimit}
+use Rattle.edition.specs.Limits.{noLink, linkLimit, linkWidth}
 use Rattle.edition.specs.Stored.{frontBytes, headerKind, linksKind, headerBytes, linkBytes, entryBytes}
 use Rattle.rows.specs.Count.{rowsTo}
 use Rattle.network.specs.Network.{Net, linksIn, linkIn}
@@ -16,7 +16,9 @@ use Rattle.sound.specs.Sound.{netVerdict}
 use Rattle.table.specs.Table.{table}
 use Rattle.table.specs.Work.{entryAt}
 use Rattle.record.specs.Record.{headerRecord, linkRecord, entryRecord}
+use Rattle.block.specs.Bytes.{numberIn}
 use Rattle.archive.specs.declared.Part.{Part}
+use Rattle.archive.specs.Parts.{linkPlace, entryPlace}
 
 -- bytes a record of a kind; what is neither header nor link is an entry
 unfoldable pub heldBytes : ℕ → ℕ
@@ -44,3 +46,11 @@ pub record Tabled (g : Net) (entries : List ℕ) : Type 0 where
   pub ok : netVerdict g ≡ Taken
   pub more : List ℕ
   pub is : entries ≡ table g ++ more
+
+-- number j of the row of links that a file holds
+unfoldable pub linkNumber : List ℕ → ℕ → ℕ
+linkNumber file j = numberIn file (linkPlace (j / linkWidth) + 2 * (j % linkWidth)) 2
+
+-- the parent link of x in a file of m links
+unfoldable pub parentNumber : List ℕ → ℕ → ℕ → ℕ
+parentNumber file m x = numberIn file (entryPlace m x) 2

@@ -2,14 +2,16 @@
 ghost use mathlib.Core.Path.{_≡_};
 ghost use Prim.Native.Nat.{_+_, _*_, _-_, _<_, _≤_, _^_, min};
 ghost use mathlib.Core.List.{_++_};
-ghost use lib.ListN.{length, drop};
+ghost use lib.ListN.{length, take, drop};
 ghost use lib.Seq.{sets};
-ghost use Rattle.edition.specs.Limits.{nodeLimit, linkLimit};
+ghost use Rattle.edition.specs.Limits.{nodeLimit, linkLimit, linkWidth};
 ghost use Rattle.edition.specs.Stored.{frontBytes, blockBytes, blockLimit};
 ghost use Rattle.network.specs.Network.{netOf, linksIn};
 ghost use Rattle.table.specs.Work.{entryAt};
 ghost use Rattle.record.specs.Record.{recordPut};
-ghost use Rattle.archive.specs.Work.{heldBytes, recordIn, laid, Held, Tabled};
+ghost use Rattle.archive.specs.Work.{heldBytes, recordIn, laid, Held, Tabled, linkNumber, parentNumber};
+ghost use Rattle.rows.specs.Count.{rowWith};
+ghost use Rattle.rows.specs.Lists.{same};
 ghost use Rattle.rows.specs.First.{verdictTo};
 ghost use Rattle.archive.specs.Reader.{blockRefusal, headRead, unequal, headVerdict};
 ghost use Rattle.archive.specs.Writer.{blockOf, fileOf, fileLength, writeVerdict, writeAnswer, writtenRow};
@@ -384,4 +386,44 @@ fn entry_place(m: usize, x: usize) -> usize
     (1 + before + x / Edition::ENTRIES_A_BLOCK) * Edition::BLOCK_BYTES
         + Edition::FRONT_BYTES
         + x % Edition::ENTRIES_A_BLOCK * Edition::ENTRY_BYTES
+}
+
+// The link numbers of a file of m links, at the beginning of a row.
+fn fill_links(file: &[u8], m: usize, row: &mut [u16])
+    requires { ⌜ (m ≤ 65536) × (m * linkWidth ≤ length (now row)) ⌝ }
+    ensures { λ _. ⌜ now (row .exit) ≡ rowWith (linkNumber (now (file .entry))) (m * linkWidth) (now (row .entry)) ⌝ }
+{
+    let mut j = 0;
+    while j < m * Memory::LINK {
+        let place = link_place(j / Memory::LINK) + 2 * (j % Memory::LINK);
+        row[j] = record::two_at(file, place);
+        j += 1;
+    }
+}
+
+// The parent links of a file of n nodes and m links, at the beginning of a row.
+fn fill_parents(file: &[u8], m: usize, n: usize, row: &mut [u16])
+    requires { ⌜ (m ≤ 65536) × (n ≤ 65536) × (n ≤ length (now row)) ⌝ }
+    ensures { λ _. ⌜ now (row .exit) ≡ rowWith (parentNumber (now (file .entry)) m) n (now (row .entry)) ⌝ }
+{
+    let mut x = 0;
+    while x < n {
+        row[x] = record::two_at(file, entry_place(m, x));
+        x += 1;
+    }
+}
+
+// Whether the bytes of a file from a place on are a record.
+fn is_same(file: &[u8], at: usize, own: &[u8]) -> bool
+    requires { ⌜ at + length (now own) ≤ length (now file) ⌝ }
+    ensures { λ r. ⌜ r ≡ same (take (length (now (own .entry))) (drop at (now (file .entry)))) (now (own .entry)) ⌝ }
+{
+    let mut j = 0;
+    while j < own.len() {
+        if file[at + j] != own[j] {
+            return false;
+        }
+        j += 1;
+    }
+    true
 }
