@@ -99,7 +99,7 @@ module _ (g : Net) (more : List ℕ) (x : ℕ) (l : x < g .nodes) where
       ∙ (sym (getD-take entryWidth (drop (x * entryWidth) (table g ++ more)) i 0 m)
       ∙ ap (λ (r : List ℕ). getD r i 0) (rows-at (λ y. entryRow (entry g y)) entryWidth (λ y. refl) (g .nodes) more x l))
 
-  entry-read : entryAt (table g ++ more) x ≡ entry g x
+  pub entry-read : entryAt (table g ++ more) x ≡ entry g x
   unfolding entryAt entryRow
   entry-read =
       let zero-at : getD (table g ++ more) (x * entryWidth) 0 ≡ getD (table g ++ more) (x * entryWidth + 0) 0 = ap (λ i. getD (table g ++ more) i 0) (omega arith) in

@@ -1,4 +1,5 @@
 pub mod Blocks
+pub mod Entries
 pub mod Files
 pub mod Comparing
 pub mod Filing

@@ -1,16 +1,21 @@
 -- What private functions of this crate promise each other. No public promise cites this page. Assumes nothing.
-use mathlib.Core.Bool.{cond}
+use mathlib.Core.Bool.{Bool, cond, not}
 use mathlib.Core.Path.{_≡_}
-use mathlib.Core.List.{List, _++_}
-use Prim.Native.Nat.{ℕ, _+_, _*_, _/_, _%_, _≤_}
+use mathlib.Core.List.{List, [], _∷_, _++_}
+use Prim.Native.Nat.{ℕ, _+_, _*_, _/_, _%_, _<_, _≤_}
 use lib.Dec.{eqb}
-use lib.ListN.{length, getD}
+use lib.ListN.{length, getD, take, drop}
 use lib.Seq.{sets}
 use Rattle.edition.specs.declared.Search.{Search}
+use Rattle.edition.specs.declared.Verdict.{Verdict}
 use Rattle.edition.specs.declared.Verdict.the-variants.{Taken}
+use Rattle.edition.specs.declared.Why.the-variants.{NoRoom, BadEntry}
+use Rattle.rows.specs.First.{refuseIf, refuseAt, firstly}
 use Rattle.edition.specs.Limits.{noLink, linkLimit, linkWidth}
 use Rattle.edition.specs.Stored.{frontBytes, headerKind, linksKind, headerBytes, linkBytes, entryBytes}
 use Rattle.rows.specs.Count.{rowsTo}
+use Rattle.rows.specs.Lists.{same}
+use Rattle.swap.specs.Entry.{entry}
 use Rattle.network.specs.Network.{Net, linksIn, linkIn}
 use Rattle.sound.specs.Sound.{netVerdict}
 use Rattle.table.specs.Table.{table}
@@ -54,3 +59,22 @@ linkNumber file j = numberIn file (linkPlace (j / linkWidth) + 2 * (j % linkWidt
 -- the parent link of x in a file of m links
 unfoldable pub parentNumber : List ℕ → ℕ → ℕ → ℕ
 parentNumber file m x = numberIn file (entryPlace m x) 2
+
+-- the stored entry of x is not the one of a row of entries
+unfoldable pub badBy : List ℕ → ℕ → List ℕ → List ℕ → ℕ → Bool
+badBy file m parents entries x =
+    not (same (take entryBytes (drop (entryPlace m x) file)) (entryRecord (getD parents x noLink) (entryAt entries x)))
+
+-- the stored entry of x is not the network's
+unfoldable pub badStored : List ℕ → Net → ℕ → Bool
+badStored file g x =
+    not (same (take entryBytes (drop (entryPlace (g .links) x) file)) (entryRecord (g .parent x) (entry g x)))
+
+-- the places of all entries are in the file
+pub record Placed (file : List ℕ) (m n : ℕ) : Type 0 where
+  pub each : (x : ℕ) → x < n → entryPlace m x + entryBytes ≤ length file
+
+-- 1 to 9, then 10, then 24, of a network that a file holds
+unfoldable pub contentVerdict : List ℕ → Net → Bool → Verdict
+contentVerdict file g tight =
+    firstly (netVerdict g ∷ refuseIf tight NoRoom 0 ∷ refuseAt (badStored file g) (g .nodes) BadEntry ∷ [])

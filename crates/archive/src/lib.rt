@@ -5,20 +5,22 @@ ghost use mathlib.Core.List.{_++_};
 ghost use lib.ListN.{length, take, drop};
 ghost use lib.Seq.{sets};
 ghost use Rattle.edition.specs.Limits.{nodeLimit, linkLimit, linkWidth};
-ghost use Rattle.edition.specs.Stored.{frontBytes, blockBytes, blockLimit};
+ghost use Rattle.edition.specs.Stored.{frontBytes, blockBytes, entryBytes, blockLimit};
 ghost use Rattle.network.specs.Network.{netOf, linksIn};
+ghost use Rattle.sound.specs.Sound.{netVerdict};
 ghost use Rattle.table.specs.Work.{entryAt};
 ghost use Rattle.record.specs.Record.{recordPut};
-ghost use Rattle.archive.specs.Work.{heldBytes, recordIn, laid, Held, Tabled, linkNumber, parentNumber};
+ghost use Rattle.archive.specs.Work.{heldBytes, recordIn, laid, Held, Tabled, linkNumber, parentNumber, badBy, badStored, Placed, contentVerdict};
 ghost use Rattle.rows.specs.Count.{rowWith};
 ghost use Rattle.rows.specs.Lists.{same};
-ghost use Rattle.rows.specs.First.{verdictTo};
+ghost use Rattle.rows.specs.First.{firstTo, verdictTo};
 ghost use Rattle.archive.specs.Reader.{blockRefusal, headRead, unequal, headVerdict};
 ghost use Rattle.archive.specs.Writer.{blockOf, fileOf, fileLength, writeVerdict, writeAnswer, writtenRow};
 ghost use Rattle.edition.specs.declared.Verdict.the-variants.{Taken};
 ghost use Rattle.archive.specs.Parts.{blocksFor, linkBlocks, blockCount, partOf, partAt, linkPlace, entryPlace};
 use edition::Edition;
 use edition::Entry;
+use edition::Found;
 use edition::Memory;
 use edition::Refusal;
 use edition::Search;
@@ -426,4 +428,65 @@ fn is_same(file: &[u8], at: usize, own: &[u8]) -> bool
         j += 1;
     }
     true
+}
+
+// Whether the stored entry of x is not the one of a row of entries.
+fn is_bad_entry(file: &[u8], m: usize, parents: &[u16], entries: &[u64], x: usize) -> bool
+    requires { ⌜ (m ≤ 65536) × (x < nodeLimit) × (entryPlace m x + entryBytes ≤ length (now file)) ⌝ }
+    ensures { λ r. ⌜ r ≡ badBy (now (file .entry)) m (now (parents .entry)) (now (entries .entry)) x ⌝ }
+{
+    let mut own = [0u8; Edition::ENTRY_BYTES];
+    record::put_entry(
+        &mut own,
+        0,
+        network::parent_of(parents, x),
+        entry_in(entries, x),
+    );
+    !is_same(file, entry_place(m, x), &own)
+}
+
+// The lowest node whose stored entry is not the one of a row of entries.
+fn seek_bad_entry(file: &[u8], m: usize, parents: &[u16], entries: &[u64]) -> Found
+    requires { ⌜ (m ≤ 65536) × (length (now parents) ≤ nodeLimit) × Placed (now file) m (length (now parents)) ⌝ }
+    ensures { λ r. ⌜ r ≡ firstTo (badBy (now (file .entry)) m (now (parents .entry)) (now (entries .entry))) (length (now (parents .entry))) ⌝ }
+{
+    let mut found = Found::Nothing;
+    let mut x = 0;
+    while x < parents.len() {
+        found = rows::or_here(found, is_bad_entry(file, m, parents, entries, x), x);
+        x += 1;
+    }
+    found
+}
+
+// The lowest node whose stored entry is not the one worked out.
+fn first_bad_entry(file: &[u8], links: &[u16], parents: &[u16], search: Search) -> Found
+    requires { ⌜ (netVerdict (netOf (now links) (now parents) search) ≡ Taken) × Placed (now file) (linksIn (now links)) (length (now parents)) ⌝ }
+    ensures { λ r. ⌜ r ≡ firstTo (badStored (now (file .entry)) (netOf (now (links .entry)) (now (parents .entry)) search)) (length (now (parents .entry))) ⌝ }
+{
+    let mut entries = [0u64; Memory::NODES * Memory::ENTRY];
+    table::table(links, parents, search, &mut entries);
+    seek_bad_entry(file, network::links_in(links), parents, &entries)
+}
+
+// 5 to 9, then 10 where a lent row is too short, then 24, of a file and the rows that it holds.
+fn check_content(
+    file: &[u8],
+    links: &[u16],
+    parents: &[u16],
+    search: Search,
+    tight: bool,
+) -> Verdict
+    requires { ⌜ Placed (now file) (linksIn (now links)) (length (now parents)) ⌝ }
+    ensures { λ r. ⌜ r ≡ contentVerdict (now (file .entry)) (netOf (now (links .entry)) (now (parents .entry)) search) tight ⌝ }
+{
+    let said = sound::verdict(links, parents, search);
+    let Verdict::Taken = said else {
+        return said;
+    };
+    let room = rows::refuse_if(tight, Why::NoRoom, 0);
+    let Verdict::Taken = room else {
+        return room;
+    };
+    rows::refused_at(Why::BadEntry, first_bad_entry(file, links, parents, search))
 }

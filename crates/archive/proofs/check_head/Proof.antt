@@ -1,24 +1,9 @@
 -- `archive::check_head` meets its contract. Assumes nothing.
 use native.Mathlib.Omega.{arith}
-use mathlib.Core.Path.{refl, sym, ap, _∙_}
-use Prim.Native.Nat.{_+_, _*_, _/_, _%_}
-use borrow.Author.Tests.{eq-eqb, ne-eqb}
-use Rattle.edition.specs.Stored.{blockBytes}
-use Rattle.archive.specs.Parts.{linkPlace, entryPlace}
-use Rattle.archive.specs.Reader.{nodesRead, linksRead, searchRead, headRead, unequal}
-use Rattle.archive.proofs.Parting.{some-blocks}
 use Rattle.archive.proofs.Heading.{length-refuses, first-there, block-refuses, sizes-decide}
 use borrow.Author.Needs.{needs}
 use Rattle.archive.proofs.check_head.Statement.{statement}
 use Rattle.archive.proofs.check_head.Tie as tie
-use Rattle.archive.proofs.check_head.Reads as reads
-use Rattle.archive.proofs.check_head.Lts as lts
-use Rattle.archive.proofs.check_part.Reads as check-part-reads
-use Rattle.archive.proofs.header_of.Reads as header-of-reads
-use Rattle.archive.proofs.is_unequal.Reads as is-unequal-reads
-use Rattle.edition.proofs.Edition.limits.Reads as limits-reads
-use Rattle.network.proofs.check_sizes.Reads as check-sizes-reads
-use Rattle.rows.proofs.refuse_if.Reads as refuse-if-reads
 
 is-unequal-requires : tie.Need-is-unequal-requires
 is-unequal-requires c κs = search needs

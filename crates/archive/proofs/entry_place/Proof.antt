@@ -1,19 +1,12 @@
 -- `archive::entry_place` meets its contract. Assumes nothing.
 use native.Mathlib.Omega.{arith}
-use mathlib.Core.Path.{refl, sym, ap, _∙_}
+use mathlib.Core.Path.{ap}
 use Prim.Native.Nat.{_+_, _*_, _/_, _%_}
-use borrow.Author.Tests.{eq-eqb, ne-eqb}
-use Rattle.edition.specs.Stored.{blockBytes}
-use Rattle.archive.specs.Parts.{linkPlace, entryPlace}
-use Rattle.archive.specs.Reader.{nodesRead, linksRead, searchRead, headRead, unequal}
+use Rattle.archive.specs.Parts.{entryPlace}
 use Rattle.archive.proofs.Parting.{some-blocks}
-use Rattle.archive.proofs.Heading.{length-refuses, first-there, block-refuses, sizes-decide}
 use borrow.Author.Needs.{needs}
 use Rattle.archive.proofs.entry_place.Statement.{statement}
 use Rattle.archive.proofs.entry_place.Tie as tie
-use Rattle.archive.proofs.entry_place.Reads as reads
-use Rattle.archive.proofs.entry_place.Lts as lts
-use Rattle.archive.proofs.blocks_for.Reads as blocks-for-reads
 
 blocks-for-requires : tie.Need-blocks-for-requires
 blocks-for-requires c κs = search needs

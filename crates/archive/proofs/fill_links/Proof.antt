@@ -1,19 +1,13 @@
 -- `archive::fill_links` meets its contract. Assumes nothing.
 use native.Mathlib.Omega.{arith}
-use Prim.Native.Nat.{_-_, _*_, _+_}
-use lib.ListN.{length}
-use mathlib.Core.Path.{ap, _∙_}
+use Prim.Native.Nat.{_-_, _*_}
 use Rattle.edition.specs.Limits.{linkWidth}
 use Rattle.rows.proofs.Filling.{Filled, filled-start, filled-length, filled-room, filled-more, filled-end}
-use Rattle.archive.specs.Work.{linkNumber, parentNumber}
-use Rattle.archive.proofs.Comparing.{Alike, alike-start, alike-more, not-alike, all-alike, link-number, parent-number, place-small}
+use Rattle.archive.specs.Work.{linkNumber}
+use Rattle.archive.proofs.Comparing.{link-number, place-small}
 use borrow.Author.Needs.{needs}
 use Rattle.archive.proofs.fill_links.Statement.{statement}
 use Rattle.archive.proofs.fill_links.Tie as tie
-use Rattle.archive.proofs.fill_links.Reads as reads
-use Rattle.archive.proofs.fill_links.Lts as lts
-use Rattle.archive.proofs.link_place.Reads as link-place-reads
-use Rattle.record.proofs.two_at.Reads as two-at-reads
 
 abbrev Inv-loop : tie.InvT-loop
 Inv-loop file m row₀ j₀ row j = Filled (linkNumber file) (m * linkWidth) row₀ j row

@@ -1,19 +1,12 @@
 -- `archive::fill_parents` meets its contract. Assumes nothing.
 use native.Mathlib.Omega.{arith}
-use Prim.Native.Nat.{_-_, _*_, _+_}
-use lib.ListN.{length}
-use mathlib.Core.Path.{ap, _∙_}
-use Rattle.edition.specs.Limits.{linkWidth}
+use Prim.Native.Nat.{_-_}
 use Rattle.rows.proofs.Filling.{Filled, filled-start, filled-length, filled-room, filled-more, filled-end}
-use Rattle.archive.specs.Work.{linkNumber, parentNumber}
-use Rattle.archive.proofs.Comparing.{Alike, alike-start, alike-more, not-alike, all-alike, link-number, parent-number, place-small}
+use Rattle.archive.specs.Work.{parentNumber}
+use Rattle.archive.proofs.Comparing.{parent-number}
 use borrow.Author.Needs.{needs}
 use Rattle.archive.proofs.fill_parents.Statement.{statement}
 use Rattle.archive.proofs.fill_parents.Tie as tie
-use Rattle.archive.proofs.fill_parents.Reads as reads
-use Rattle.archive.proofs.fill_parents.Lts as lts
-use Rattle.archive.proofs.entry_place.Reads as entry-place-reads
-use Rattle.record.proofs.two_at.Reads as two-at-reads
 
 abbrev Inv-loop : tie.InvT-loop
 Inv-loop file m n row₀ x₀ row x = Filled (parentNumber file m) n row₀ x row

@@ -1,19 +1,8 @@
 -- `archive::header_of` meets its contract. Assumes nothing.
-use native.Mathlib.Omega.{arith}
-use mathlib.Core.Path.{refl, sym, ap, _∙_}
-use Prim.Native.Nat.{_+_, _*_, _/_, _%_}
-use borrow.Author.Tests.{eq-eqb, ne-eqb}
-use Rattle.edition.specs.Stored.{blockBytes}
-use Rattle.archive.specs.Parts.{linkPlace, entryPlace}
-use Rattle.archive.specs.Reader.{nodesRead, linksRead, searchRead, headRead, unequal}
-use Rattle.archive.proofs.Parting.{some-blocks}
-use Rattle.archive.proofs.Heading.{length-refuses, first-there, block-refuses, sizes-decide}
+use Rattle.archive.specs.Reader.{nodesRead, linksRead, searchRead, headRead}
 use borrow.Author.Needs.{needs}
 use Rattle.archive.proofs.header_of.Statement.{statement}
 use Rattle.archive.proofs.header_of.Tie as tie
-use Rattle.archive.proofs.header_of.Reads as reads
-use Rattle.archive.proofs.header_of.Lts as lts
-use Rattle.record.proofs.two_at.Reads as two-at-reads
 
 two-at-requires : tie.Need-two-at-requires
 two-at-requires c κs = search needs

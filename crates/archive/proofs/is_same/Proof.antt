@@ -1,17 +1,11 @@
 -- `archive::is_same` meets its contract. Assumes nothing.
 use native.Mathlib.Omega.{arith}
-use Prim.Native.Nat.{_-_, _*_, _+_}
+use Prim.Native.Nat.{_-_}
 use lib.ListN.{length}
-use mathlib.Core.Path.{ap, _∙_}
-use Rattle.edition.specs.Limits.{linkWidth}
-use Rattle.rows.proofs.Filling.{Filled, filled-start, filled-length, filled-room, filled-more, filled-end}
-use Rattle.archive.specs.Work.{linkNumber, parentNumber}
-use Rattle.archive.proofs.Comparing.{Alike, alike-start, alike-more, not-alike, all-alike, link-number, parent-number, place-small}
+use Rattle.archive.proofs.Comparing.{Alike, alike-start, alike-more, not-alike, all-alike}
 use borrow.Author.Needs.{needs}
 use Rattle.archive.proofs.is_same.Statement.{statement}
 use Rattle.archive.proofs.is_same.Tie as tie
-use Rattle.archive.proofs.is_same.Reads as reads
-use Rattle.archive.proofs.is_same.Lts as lts
 
 abbrev Inv-loop : tie.InvT-loop
 Inv-loop file at own j₀ j = Alike file at own j

@@ -1,18 +1,9 @@
 -- `archive::link_place` meets its contract. Assumes nothing.
-use native.Mathlib.Omega.{arith}
-use mathlib.Core.Path.{refl, sym, ap, _∙_}
-use Prim.Native.Nat.{_+_, _*_, _/_, _%_}
-use borrow.Author.Tests.{eq-eqb, ne-eqb}
-use Rattle.edition.specs.Stored.{blockBytes}
-use Rattle.archive.specs.Parts.{linkPlace, entryPlace}
-use Rattle.archive.specs.Reader.{nodesRead, linksRead, searchRead, headRead, unequal}
-use Rattle.archive.proofs.Parting.{some-blocks}
-use Rattle.archive.proofs.Heading.{length-refuses, first-there, block-refuses, sizes-decide}
+use mathlib.Core.Path.{refl}
+use Rattle.archive.specs.Parts.{linkPlace}
 use borrow.Author.Needs.{needs}
 use Rattle.archive.proofs.link_place.Statement.{statement}
 use Rattle.archive.proofs.link_place.Tie as tie
-use Rattle.archive.proofs.link_place.Reads as reads
-use Rattle.archive.proofs.link_place.Lts as lts
 
 add-result : tie.Need-add-result
 add-result c = search needs

@@ -1,0 +1,100 @@
+-- The stored entries of a file, compared with those worked out. Assumes nothing.
+use mathlib.Core.Path.{_≡_, sym, subst, ap, ap₂, _∙_}
+use mathlib.Core.Bool.{Bool, not}
+use mathlib.Core.List.{List, _++_, append-nil}
+use Prim.Native.Nat.{ℕ, _+_, _*_, _≤_}
+use native.Mathlib.Omega.{arith}
+use lib.ListN.{length, getD, take, drop, replicate, length-replicate, drop-of-length-le}
+use lib.Seq.{sets-eq}
+use Rattle.edition.specs.declared.Entry.{Entry}
+use Rattle.edition.specs.declared.Found.{Found}
+use Rattle.edition.specs.declared.Search.{Search}
+use Rattle.edition.specs.declared.Refusal.{Refusal}
+use Rattle.edition.specs.declared.Verdict.{Verdict}
+use Rattle.edition.specs.declared.Verdict.the-variants.{Taken, Refused}
+use Rattle.edition.specs.declared.Why.the-variants.{NoRoom, BadEntry}
+use Rattle.rows.proofs.Refusing.{head-refuses, head-passes, only-one}
+use Rattle.edition.specs.Limits.{noLink, nodeLimit, entryWidth}
+use Rattle.edition.specs.Stored.{entryBytes}
+use Rattle.rows.specs.First.{firstTo, refuseIf, refuseAt, refusedAt}
+use Rattle.rows.specs.Lists.{same}
+use Rattle.rows.proofs.Best.{first-cong}
+use Rattle.network.specs.Network.{linksIn, netOf}
+use Rattle.sound.specs.Sound.{netVerdict}
+use Rattle.sound.proofs.Sounds.{sound}
+use Rattle.sound.proofs.Holding.{nodes-few, links-few}
+use Rattle.table.specs.Table.{table, tableRow}
+use Rattle.table.specs.Work.{entryAt}
+use Rattle.table.proofs.Single.{bareRow, bare-verdict}
+use Rattle.record.specs.Record.{entryRecord, recordPut}
+use Rattle.record.proofs.Putting.{entry-size}
+use Rattle.archive.specs.Parts.{entryPlace}
+use Rattle.archive.specs.Work.{badBy, badStored, Placed, contentVerdict}
+use Rattle.archive.proofs.Blocks.{entry-read}
+
+-- a record put into a row of its size is the row
+own-is : (u : ℕ) (e : Entry) (own : List ℕ) → own ≡ recordPut 0 entryBytes (entryRecord u e) (replicate entryBytes 0) → own ≡ entryRecord u e
+unfolding recordPut
+own-is u e own q =
+    let zeros : length (replicate {A = ℕ} entryBytes 0) ≡ entryBytes = length-replicate {A = ℕ} entryBytes 0 in
+    q
+    ∙ (sets-eq (entryRecord u e) (replicate entryBytes 0) 0 (omega (arith, zeros, entry-size u e))
+    ∙ (ap (λ (r : List ℕ). entryRecord u e ++ r) (drop-of-length-le (replicate entryBytes 0) {i = 0 + length (entryRecord u e)} (omega (arith, zeros, entry-size u e))) ∙ append-nil (entryRecord u e)))
+
+module _ (u : ℕ) (e : Entry) (own : List ℕ) (q : own ≡ recordPut 0 entryBytes (entryRecord u e) (replicate entryBytes 0)) where
+  pub own-length : length own ≡ entryBytes
+  own-length = ap length (own-is u e own q) ∙ entry-size u e
+
+  pub bad-is : (file : List ℕ) (m : ℕ) (parents entries : List ℕ) (x : ℕ) → u ≡ getD parents x noLink → e ≡ entryAt entries x → (place : ℕ) → place ≡ entryPlace m x → (b : Bool) → b ≡ same (take (length own) (drop place file)) own → not b ≡ badBy file m parents entries x
+  unfolding badBy
+  bad-is file m parents entries x p w place z b s =
+      ap not
+      (s
+      ∙ (ap (λ k. same (take k (drop place file)) own) own-length
+      ∙ (ap (λ k. same (take entryBytes (drop k file)) own) z
+      ∙ (ap (same (take entryBytes (drop (entryPlace m x) file))) (own-is u e own q)
+      ∙ ap₂ (λ (a : ℕ) (b : Entry). same (take entryBytes (drop (entryPlace m x) file)) (entryRecord a b)) p w))))
+
+pub placed-by : (file : List ℕ) (n m l : ℕ) → m ≡ l → Placed file l n → Placed file m n
+placed-by file n m l q p = subst (λ k. Placed file k n) (sym q) p
+
+-- by the table of a sound network
+module _ (links parents : List ℕ) (search : Search) (ok : netVerdict (netOf links parents search) ≡ Taken) where
+  pub few-nodes : length parents ≤ nodeLimit
+  unfolding netOf
+  few-nodes = nodes-few (netOf links parents search) (sound (netOf links parents search) ok)
+
+  pub few-links : (m : ℕ) → m ≡ linksIn links → m ≤ 65536
+  unfolding netOf
+  few-links m q = omega (arith, q, links-few (netOf links parents search) (sound (netOf links parents search) ok))
+
+  table-is : (entries : List ℕ) → entries ≡ tableRow (netOf links parents search) bareRow → entries ≡ table (netOf links parents search) ++ drop (netOf links parents search .nodes * entryWidth) bareRow
+  unfolding tableRow
+  table-is entries q = q ∙ rw (bare-verdict (netOf links parents search) Taken ok)
+
+  pub stored-bad : (file entries : List ℕ) → entries ≡ tableRow (netOf links parents search) bareRow → (m : ℕ) → m ≡ linksIn links → (f : Found) → f ≡ firstTo (badBy file m parents entries) (length parents) → f ≡ firstTo (badStored file (netOf links parents search)) (length parents)
+  unfolding badBy badStored netOf
+  stored-bad file entries q m c f p =
+      p
+      ∙ first-cong _ _ (length parents)
+      (λ x l.
+      ap₂ (λ (k : ℕ) (own : Entry). not (same (take entryBytes (drop (entryPlace k x) file)) (entryRecord (getD parents x noLink) own))) c
+      (ap (λ (row : List ℕ). entryAt row x) (table-is entries q) ∙ entry-read (netOf links parents search) (drop (netOf links parents search .nodes * entryWidth) bareRow) x l))
+
+-- the checks of the content in their order
+module _ (file links parents : List ℕ) (search : Search) (tight : Bool) (v : Verdict) (is : v ≡ netVerdict (netOf links parents search)) where
+  pub net-refuses : (r : Refusal) → v ≡ Refused r → v ≡ contentVerdict file (netOf links parents search) tight
+  unfolding contentVerdict
+  net-refuses r t = t ∙ sym (head-refuses _ _ r (sym is ∙ t))
+
+  module _ (ok : v ≡ Taken) (w : Verdict) (wis : w ≡ refuseIf tight NoRoom 0) where
+    pub room-refuses : (r : Refusal) → w ≡ Refused r → w ≡ contentVerdict file (netOf links parents search) tight
+    unfolding contentVerdict
+    room-refuses r t = t ∙ sym (head-passes _ _ (sym is ∙ ok) ∙ head-refuses _ _ r (sym wis ∙ t))
+
+    pub entries-decide : w ≡ Taken → (f : Found) → f ≡ firstTo (badStored file (netOf links parents search)) (length parents) → (x : Verdict) → x ≡ refusedAt BadEntry f → x ≡ contentVerdict file (netOf links parents search) tight
+    unfolding contentVerdict refuseAt netOf
+    entries-decide t f e x q =
+        q
+        ∙ (ap (refusedAt BadEntry) e
+        ∙ sym (head-passes _ _ (sym is ∙ ok) ∙ (head-passes _ _ (sym wis ∙ t) ∙ only-one _)))

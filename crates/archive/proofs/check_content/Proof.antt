@@ -1,0 +1,55 @@
+-- `archive::check_content` meets its contract. Assumes nothing.
+use mathlib.Core.Path.{sym, _∙_}
+use Rattle.archive.proofs.Entries.{net-refuses, room-refuses, entries-decide}
+use borrow.Author.Needs.{needs}
+use Rattle.archive.proofs.check_content.Statement.{statement}
+use Rattle.archive.proofs.check_content.Tie as tie
+
+verdict-requires : tie.Need-verdict-requires
+verdict-requires c κs = search needs
+
+enum-told : tie.Need-enum-told
+enum-told c = search needs
+
+enum-told-2 : tie.Need-enum-told-2
+enum-told-2 c = search needs
+
+returns : tie.Need-returns
+returns c = net-refuses _ _ _ _ _ _ (c .before .before .verdict .ensures) _ (c .enum-told2 .given .1)
+
+refuse-if-requires : tie.Need-refuse-if-requires
+refuse-if-requires c κs = search needs
+
+enum-told-3 : tie.Need-enum-told-3
+enum-told-3 c = search needs
+
+enum-told-4 : tie.Need-enum-told-4
+enum-told-4 c = search needs
+
+returns-2 : tie.Need-returns-2
+returns-2 c = room-refuses _ _ _ _ _ _ (c .before .before .before .before .before .verdict .ensures) (c .before .before .before .enum-told .given .1) _ (c .before .before .refuse-if .ensures) _ (c .enum-told4 .given .1)
+
+first-bad-entry-requires : tie.Need-first-bad-entry-requires
+first-bad-entry-requires c κs = (sym (c .before .before .before .before .before .verdict .ensures) ∙ c .before .before .before .enum-told .given .1, c .before .before .before .before .before .before .before .before .before .pre)
+
+refused-at-requires : tie.Need-refused-at-requires
+refused-at-requires c κs = search needs
+
+returns-3 : tie.Need-returns-3
+returns-3 c = entries-decide _ _ _ _ _ _ (c .before .before .before .before .before .before .before .verdict .ensures) (c .before .before .before .before .before .enum-told .given .1) _ (c .before .before .before .before .refuse-if .ensures) (c .before .before .enum-told3 .given .1) _ (c .before .first-bad-entry .ensures) _ (c .refused-at .ensures)
+
+pub check-content-spec : {M : Type 1} → statement M
+check-content-spec =
+    tie.close
+    (tie.spec
+    verdict-requires
+    enum-told
+    enum-told-2
+    returns
+    refuse-if-requires
+    enum-told-3
+    enum-told-4
+    returns-2
+    first-bad-entry-requires
+    refused-at-requires
+    returns-3)

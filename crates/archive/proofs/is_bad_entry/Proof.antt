@@ -1,0 +1,43 @@
+-- `archive::is_bad_entry` meets its contract. Assumes nothing.
+use native.Mathlib.Omega.{arith}
+use Rattle.archive.proofs.Entries.{own-length, bad-is}
+use borrow.Author.Needs.{needs}
+use Rattle.archive.proofs.is_bad_entry.Statement.{statement}
+use Rattle.archive.proofs.is_bad_entry.Tie as tie
+
+slice-aggregate-put-entry : tie.Need-slice-aggregate-put-entry
+slice-aggregate-put-entry c = search needs
+
+parent-of-requires : tie.Need-parent-of-requires
+parent-of-requires c κs = search needs
+
+entry-in-requires : tie.Need-entry-in-requires
+entry-in-requires c κs = omega (arith, c .before .before .before .before .before .pre .1)
+
+put-entry-requires : tie.Need-put-entry-requires
+put-entry-requires c κs = search needs
+
+entry-place-requires : tie.Need-entry-place-requires
+entry-place-requires c κs = (c .before .before .before .before .before .before .before .before .pre .0, omega (arith, c .before .before .before .before .before .before .before .before .pre .1))
+
+slice-aggregate-is-same : tie.Need-slice-aggregate-is-same
+slice-aggregate-is-same c = search needs
+
+is-same-requires : tie.Need-is-same-requires
+is-same-requires c κs = omega (arith, c .before .before .before .before .before .before .before .before .before .before .pre .2, c .before .entry-place .ensures, own-length _ _ _ (c .before .before .before .put-entry .ensures))
+
+returns : tie.Need-returns
+returns c = bad-is _ _ _ (c .before .before .before .before .put-entry .ensures) _ _ _ _ _ (c .before .before .before .before .before .before .parent-of .ensures) (c .before .before .before .before .before .entry-in .ensures) _ (c .before .before .entry-place .ensures) _ (c .is-same .ensures)
+
+pub is-bad-entry-spec : {M : Type 1} → statement M
+is-bad-entry-spec =
+    tie.close
+    (tie.spec
+    slice-aggregate-put-entry
+    parent-of-requires
+    entry-in-requires
+    put-entry-requires
+    entry-place-requires
+    slice-aggregate-is-same
+    is-same-requires
+    returns)
