@@ -4,6 +4,7 @@ pub mod Files
 pub mod Comparing
 pub mod Filing
 pub mod Heading
+pub mod Holding
 pub mod Judging
 pub mod Laying
 pub mod Parting

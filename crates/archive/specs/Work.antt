@@ -12,7 +12,7 @@ use Rattle.edition.specs.declared.Verdict.the-variants.{Taken}
 use Rattle.edition.specs.declared.Why.the-variants.{NoRoom, BadEntry}
 use Rattle.rows.specs.First.{refuseIf, refuseAt, firstly}
 use Rattle.edition.specs.Limits.{noLink, linkLimit, linkWidth}
-use Rattle.edition.specs.Stored.{frontBytes, headerKind, linksKind, headerBytes, linkBytes, entryBytes}
+use Rattle.edition.specs.Stored.{editionLimits, blockBytes, frontBytes, headerKind, linksKind, headerBytes, linkBytes, entryBytes}
 use Rattle.rows.specs.Count.{rowsTo}
 use Rattle.rows.specs.Lists.{same}
 use Rattle.swap.specs.Entry.{entry}
@@ -23,7 +23,10 @@ use Rattle.table.specs.Work.{entryAt}
 use Rattle.record.specs.Record.{headerRecord, linkRecord, entryRecord}
 use Rattle.block.specs.Bytes.{numberIn}
 use Rattle.archive.specs.declared.Part.{Part}
-use Rattle.archive.specs.Parts.{linkPlace, entryPlace}
+use Rattle.network.specs.Records.{sizeVerdict}
+use Rattle.archive.specs.declared.Header.{Header}
+use Rattle.archive.specs.Parts.{blockCount, linkPlace, entryPlace}
+use Rattle.archive.specs.Reader.{nodesRead, linksRead, searchRead, headRead}
 
 -- bytes a record of a kind; what is neither header nor link is an entry
 unfoldable pub heldBytes : ℕ → ℕ
@@ -78,3 +81,9 @@ pub record Placed (file : List ℕ) (m n : ℕ) : Type 0 where
 unfoldable pub contentVerdict : List ℕ → Net → Bool → Verdict
 contentVerdict file g tight =
     firstly (netVerdict g ∷ refuseIf tight NoRoom 0 ∷ refuseAt (badStored file g) (g .nodes) BadEntry ∷ [])
+
+-- a file whose header is this, within the limits, and that has as many blocks as it says
+pub record Blocked (file : List ℕ) (head : Header) : Type 0 where
+  pub is : head ≡ headRead file
+  pub sized : sizeVerdict editionLimits (nodesRead file) (linksRead file) (searchRead file) ≡ Taken
+  pub long : length file ≡ blockCount (nodesRead file) (linksRead file) * blockBytes

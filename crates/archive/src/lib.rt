@@ -10,11 +10,11 @@ ghost use Rattle.network.specs.Network.{netOf, linksIn};
 ghost use Rattle.sound.specs.Sound.{netVerdict};
 ghost use Rattle.table.specs.Work.{entryAt};
 ghost use Rattle.record.specs.Record.{recordPut};
-ghost use Rattle.archive.specs.Work.{heldBytes, recordIn, laid, Held, Tabled, linkNumber, parentNumber, badBy, badStored, Placed, contentVerdict};
+ghost use Rattle.archive.specs.Work.{heldBytes, recordIn, laid, Held, Tabled, linkNumber, parentNumber, badBy, badStored, Placed, contentVerdict, Blocked};
 ghost use Rattle.rows.specs.Count.{rowWith};
 ghost use Rattle.rows.specs.Lists.{same};
 ghost use Rattle.rows.specs.First.{firstTo, verdictTo};
-ghost use Rattle.archive.specs.Reader.{blockRefusal, headRead, unequal, headVerdict};
+ghost use Rattle.archive.specs.Reader.{blockRefusal, headRead, netRead, unequal, headVerdict};
 ghost use Rattle.archive.specs.Writer.{blockOf, fileOf, fileLength, writeVerdict, writeAnswer, writtenRow};
 ghost use Rattle.edition.specs.declared.Verdict.the-variants.{Taken};
 ghost use Rattle.archive.specs.Parts.{blocksFor, linkBlocks, blockCount, partOf, partAt, linkPlace, entryPlace};
@@ -489,4 +489,19 @@ fn check_content(
         return room;
     };
     rows::refused_at(Why::BadEntry, first_bad_entry(file, links, parents, search))
+}
+
+// 5 to 9, 10 and 24, of a file whose length and blocks are right.
+fn check_records(file: &[u8], head: Header, tight: bool) -> Verdict
+    requires { ⌜ Blocked (now file) head ⌝ }
+    ensures { λ r. ⌜ r ≡ contentVerdict (now (file .entry)) (netRead (now (file .entry))) tight ⌝ }
+{
+    let n = head.nodes;
+    let m = head.links;
+    let count = m * Memory::LINK;
+    let mut links = [0u16; Memory::LINKS * Memory::LINK];
+    fill_links(file, m, &mut links);
+    let mut parents = [0u16; Memory::NODES];
+    fill_parents(file, m, n, &mut parents);
+    check_content(file, &links[0..count], &parents[0..n], head.search, tight)
 }
