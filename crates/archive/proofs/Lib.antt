@@ -14,5 +14,6 @@ pub mod Reading
 pub mod Accepting
 pub mod Filed
 pub mod Returning
+pub mod Deciding
 pub mod Depth
 pub mod Taking

@@ -14,7 +14,7 @@ ghost use Rattle.archive.specs.Work.{heldBytes, recordIn, laid, Held, Ta
 ghost use Rattle.rows.specs.Count.{rowWith};
 ghost use Rattle.rows.specs.Lists.{same};
 ghost use Rattle.rows.specs.First.{firstTo, verdictTo};
-ghost use Rattle.archive.specs.Reader.{blockRefusal, headRead, netRead, unequal, headVerdict};
+ghost use Rattle.archive.specs.Reader.{blockRefusal, headRead, netRead, unequal, headVerdict, tight, readVerdict};
 ghost use Rattle.archive.specs.Writer.{blockOf, fileOf, fileLength, writeVerdict, writeAnswer, writtenRow};
 ghost use Rattle.edition.specs.declared.Verdict.the-variants.{Taken};
 ghost use Rattle.archive.specs.Parts.{blocksFor, linkBlocks, blockCount, partOf, partAt, linkPlace, entryPlace};
@@ -504,4 +504,38 @@ fn check_records(file: &[u8], head: Header, tight: bool) -> Verdict
     let mut parents = [0u16; Memory::NODES];
     fill_parents(file, m, n, &mut parents);
     check_content(file, &links[0..count], &parents[0..n], head.search, tight)
+}
+
+// Whether a lent row is too short for what a file holds.
+fn is_tight(head: Header, links: &[u16], parents: &[u16], entries: &[u64]) -> bool
+    ensures { λ r. ⌜ r ≡ tight (head .nodes) (head .links) (record { links = now (links .entry); parents = now (parents .entry); entries = now (entries .entry) }) ⌝ }
+{
+    if network::links_in(links) < head.links {
+        return true;
+    }
+    if parents.len() < head.nodes {
+        return true;
+    }
+    entries.len() / Memory::ENTRY < head.nodes
+}
+
+// Whether a file is accepted: refusals in the order for a file. Nothing is written.
+pub fn check_read(file: &[u8], links: &[u16], parents: &[u16], entries: &[u64]) -> Verdict
+    ensures { λ r. ⌜ r ≡ readVerdict (now (file .entry)) (record { links = now (links .entry); parents = now (parents .entry); entries = now (entries .entry) }) ⌝ }
+{
+    let first = check_head(file);
+    let Verdict::Taken = first else {
+        return first;
+    };
+    let head = header_of(file);
+    let length = file_length(head.nodes, head.links);
+    let long = rows::refuse_if(file.len() != length, Why::BadLength, 0);
+    let Verdict::Taken = long else {
+        return long;
+    };
+    let blocks = check_blocks(file, head.nodes, head.links);
+    let Verdict::Taken = blocks else {
+        return blocks;
+    };
+    check_records(file, head, is_tight(head, links, parents, entries))
 }

@@ -1,0 +1,78 @@
+-- `archive::check_read` meets its contract. Assumes nothing.
+use Rattle.archive.proofs.Deciding.{head-decides, small-nodes, small-links, length-decides, blocks-there, blocked, blocks-decide, records-decide}
+use borrow.Author.Needs.{needs}
+use Rattle.archive.proofs.check_read.Statement.{statement}
+use Rattle.archive.proofs.check_read.Tie as tie
+
+check-head-requires : tie.Need-check-head-requires
+check-head-requires c κs = search needs
+
+enum-told : tie.Need-enum-told
+enum-told c = search needs
+
+enum-told-2 : tie.Need-enum-told-2
+enum-told-2 c = search needs
+
+returns : tie.Need-returns
+returns c = head-decides _ _ _ (c .before .before .check-head .ensures) _ (c .enum-told2 .given .1)
+
+header-of-requires : tie.Need-header-of-requires
+header-of-requires c κs = search needs
+
+file-length-requires : tie.Need-file-length-requires
+file-length-requires c κs = (small-nodes _ (record { links = c .before .before .before .before .before .before .before .before .args .links .now; parents = c .before .before .before .before .before .before .before .before .args .parents .now; entries = c .before .before .before .before .before .before .before .before .args .entries .now }) _ (c .before .before .before .check-head .ensures) (c .before .enum-told .given .1) _ (c .header-of .ensures), small-links _ (record { links = c .before .before .before .before .before .before .before .before .args .links .now; parents = c .before .before .before .before .before .before .before .before .args .parents .now; entries = c .before .before .before .before .before .before .before .before .args .entries .now }) _ (c .before .before .before .check-head .ensures) (c .before .enum-told .given .1) _ (c .header-of .ensures))
+
+refuse-if-requires : tie.Need-refuse-if-requires
+refuse-if-requires c κs = search needs
+
+enum-told-3 : tie.Need-enum-told-3
+enum-told-3 c = search needs
+
+enum-told-4 : tie.Need-enum-told-4
+enum-told-4 c = search needs
+
+returns-2 : tie.Need-returns-2
+returns-2 c = length-decides _ _ _ (c .before .before .before .before .before .before .before .check-head .ensures) (c .before .before .before .before .before .enum-told .given .1) _ (c .before .before .before .before .header-of .ensures) _ (c .before .before .before .file-length .ensures) _ (c .before .before .refuse-if .ensures) _ (c .enum-told4 .given .1)
+
+check-blocks-requires : tie.Need-check-blocks-requires
+check-blocks-requires c κs = (small-nodes _ (record { links = c .before .before .before .before .before .before .before .before .before .before .before .before .args .links .now; parents = c .before .before .before .before .before .before .before .before .before .before .before .before .args .parents .now; entries = c .before .before .before .before .before .before .before .before .before .before .before .before .args .entries .now }) _ (c .before .before .before .before .before .before .before .check-head .ensures) (c .before .before .before .before .before .enum-told .given .1) _ (c .before .before .before .before .header-of .ensures), small-links _ (record { links = c .before .before .before .before .before .before .before .before .before .before .before .before .args .links .now; parents = c .before .before .before .before .before .before .before .before .before .before .before .before .args .parents .now; entries = c .before .before .before .before .before .before .before .before .before .before .before .before .args .entries .now }) _ (c .before .before .before .before .before .before .before .check-head .ensures) (c .before .before .before .before .before .enum-told .given .1) _ (c .before .before .before .before .header-of .ensures), blocks-there _ (record { links = c .before .before .before .before .before .before .before .before .before .before .before .before .args .links .now; parents = c .before .before .before .before .before .before .before .before .before .before .before .before .args .parents .now; entries = c .before .before .before .before .before .before .before .before .before .before .before .before .args .entries .now }) _ (c .before .before .before .before .before .before .before .check-head .ensures) (c .before .before .before .before .before .enum-told .given .1) _ (c .before .before .before .before .header-of .ensures) _ (c .before .before .before .file-length .ensures) _ (c .before .before .refuse-if .ensures) (c .enum-told3 .given .1))
+
+enum-told-5 : tie.Need-enum-told-5
+enum-told-5 c = search needs
+
+enum-told-6 : tie.Need-enum-told-6
+enum-told-6 c = search needs
+
+returns-3 : tie.Need-returns-3
+returns-3 c = blocks-decide _ _ _ (c .before .before .before .before .before .before .before .before .before .before .check-head .ensures) (c .before .before .before .before .before .before .before .before .enum-told .given .1) _ (c .before .before .before .before .before .before .before .header-of .ensures) _ (c .before .before .before .before .before .before .file-length .ensures) _ (c .before .before .before .before .before .refuse-if .ensures) (c .before .before .before .enum-told3 .given .1) _ (c .before .before .check-blocks .ensures) _ (c .enum-told6 .given .1)
+
+is-tight-requires : tie.Need-is-tight-requires
+is-tight-requires c κs = search needs
+
+check-records-requires : tie.Need-check-records-requires
+check-records-requires c κs = blocked _ (record { links = c .before .before .before .before .before .before .before .before .before .before .before .before .before .before .before .before .args .links .now; parents = c .before .before .before .before .before .before .before .before .before .before .before .before .before .before .before .before .args .parents .now; entries = c .before .before .before .before .before .before .before .before .before .before .before .before .before .before .before .before .args .entries .now }) _ (c .before .before .before .before .before .before .before .before .before .before .before .check-head .ensures) (c .before .before .before .before .before .before .before .before .before .enum-told .given .1) _ (c .before .before .before .before .before .before .before .before .header-of .ensures) _ (c .before .before .before .before .before .before .before .file-length .ensures) _ (c .before .before .before .before .before .before .refuse-if .ensures) (c .before .before .before .before .enum-told3 .given .1)
+
+returns-4 : tie.Need-returns-4
+returns-4 c = records-decide _ _ _ (c .before .before .before .before .before .before .before .before .before .before .before .before .check-head .ensures) (c .before .before .before .before .before .before .before .before .before .before .enum-told .given .1) _ (c .before .before .before .before .before .before .before .before .before .header-of .ensures) _ (c .before .before .before .before .before .before .before .before .file-length .ensures) _ (c .before .before .before .before .before .before .before .refuse-if .ensures) (c .before .before .before .before .before .enum-told3 .given .1) _ (c .before .before .before .before .check-blocks .ensures) (c .before .before .enum-told5 .given .1) _ (c .before .is-tight .ensures) _ (c .check-records .ensures)
+
+pub check-read-spec : {M : Type 1} → statement M
+check-read-spec =
+    tie.close
+    (tie.spec
+    check-head-requires
+    enum-told
+    enum-told-2
+    returns
+    header-of-requires
+    file-length-requires
+    refuse-if-requires
+    enum-told-3
+    enum-told-4
+    returns-2
+    check-blocks-requires
+    enum-told-5
+    enum-told-6
+    returns-3
+    is-tight-requires
+    check-records-requires
+    returns-4)

@@ -1,0 +1,24 @@
+-- `archive::is_tight` meets its contract. Assumes nothing.
+use borrow.Author.Tests.{lt-ltb, le-ltb}
+use Rattle.archive.specs.Reader.{tight}
+use borrow.Author.Needs.{needs}
+use Rattle.archive.proofs.is_tight.Statement.{statement}
+use Rattle.archive.proofs.is_tight.Tie as tie
+
+links-in-requires : tie.Need-links-in-requires
+links-in-requires c κs = search needs
+
+returns : tie.Need-returns
+unfolding tight
+returns c = rw (← c .before .before .links-in .ensures, lt-ltb _ _ (c .if1 .taken))
+
+returns-2 : tie.Need-returns-2
+unfolding tight
+returns-2 c = rw (← c .before .before .before .before .links-in .ensures, le-ltb _ _ (c .before .before .if1 .left), lt-ltb _ _ (c .if2 .taken))
+
+returns-3 : tie.Need-returns-3
+unfolding tight
+returns-3 c = rw (← c .before .before .before .before .before .links-in .ensures, le-ltb _ _ (c .before .before .before .if1 .left), le-ltb _ _ (c .before .if2 .left))
+
+pub is-tight-spec : {M : Type 1} → statement M
+is-tight-spec = tie.close (tie.spec links-in-requires returns returns-2 returns-3)
