@@ -29,7 +29,7 @@ rest-decides : (file : List ℕ) (rows : Rows) → headVerdict file ≡ Taken �
 unfolding readVerdict
 rest-decides file rows t = sym (head-passes _ _ t ∙ only-one _)
 
-sizes-taken : (file : List ℕ) → headVerdict file ≡ Taken → sizeVerdict editionLimits (nodesRead file) (linksRead file) (searchRead file) ≡ Taken
+pub sizes-taken : (file : List ℕ) → headVerdict file ≡ Taken → sizeVerdict editionLimits (nodesRead file) (linksRead file) (searchRead file) ≡ Taken
 unfolding headVerdict
 sizes-taken file t = head-taken _ _ (rest-taken _ _ (rest-taken _ _ t))
 
@@ -50,7 +50,7 @@ size-read : (file : List ℕ) → sizeVerdict editionLimits (nodesRead file) (li
 size-read file t = rw (nodes-read file, links-read file) (searched file t)
 
 -- 1 to 4 are asked of the head already
-records-alone : (file : List ℕ) → headVerdict file ≡ Taken → netVerdict (netRead file) ≡ recordVerdict (netRead file)
+pub records-alone : (file : List ℕ) → headVerdict file ≡ Taken → netVerdict (netRead file) ≡ recordVerdict (netRead file)
 unfolding netVerdict
 records-alone file t = head-passes _ _ (size-read file (sizes-taken file t)) ∙ only-one _
 

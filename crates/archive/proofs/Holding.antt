@@ -95,6 +95,21 @@ module _ (file : List ℕ) (head : Header) (b : Blocked file head) where
   unfolding sizeVerdict badLinks
   few-links = omega (arith, links-is, ltb-false 2048 (linksRead file) (if-taken _ LinkCount 0 (head-taken _ _ (rest-taken _ _ (b .sized)))))
 
+  -- a row that was filled, as the definitions say it
+  pub links-filled : (before row : List ℕ) → row ≡ rowWith (linkNumber file) (head .links * linkWidth) before → row ≡ linkRow file ++ drop (linksRead file * linkWidth) before
+  unfolding rowWith linkRow
+  links-filled before row q =
+      q
+      ∙ (ap (λ (r : List ℕ). r ++ drop (head .links * linkWidth) before) (link-numbers file (head .links))
+      ∙ ap (λ (k : ℕ). rowsTo (λ e. rowsTo (λ i. numberIn file (linkPlace e + 2 * i) 2 ∷ []) linkWidth) k ++ drop (k * linkWidth) before) links-is)
+
+  pub parents-filled : (before row : List ℕ) → row ≡ rowWith (parentNumber file (head .links)) (head .nodes) before → row ≡ parentRow file ++ drop (nodesRead file) before
+  unfolding rowWith parentRow parentNumber
+  parents-filled before row q =
+      q
+      ∙ (ap (λ (k : ℕ). rowsTo (λ x. numberIn file (entryPlace k x) 2 ∷ []) (head .nodes) ++ drop (head .nodes) before) links-is
+      ∙ ap (λ (k : ℕ). rowsTo (λ x. numberIn file (entryPlace (linksRead file) x) 2 ∷ []) k ++ drop k before) nodes-is)
+
   module _ (zeros row : List ℕ) (q : row ≡ rowWith (linkNumber file) (head .links * linkWidth) zeros) (zeros′ row′ : List ℕ) (q′ : row′ ≡ rowWith (parentNumber file (head .links)) (head .nodes) zeros′) where
     links-are : take (head .links * linkWidth) row ≡ linkRow file
     unfolding linkRow
@@ -114,6 +129,10 @@ module _ (file : List ℕ) (head : Header) (b : Blocked file head) where
 
       part-is′ : take k′ row′ ≡ parentRow file
       part-is′ = ap (λ j. take j row′) e′ ∙ parents-are
+
+      pub network-is : netOf (take k row) (take k′ row′) (head .search) ≡ netRead file
+      unfolding netRead
+      network-is = λ t. netOf (part-is t) (part-is′ t) (search-is t)
 
       pub content-is : (tight : Bool) (v : Verdict) → v ≡ contentVerdict file (netOf (take k row) (take k′ row′) (head .search)) tight → v ≡ contentVerdict file (netRead file) tight
       unfolding netRead

@@ -8,6 +8,7 @@ pub mod Holding
 pub mod Judging
 pub mod Laying
 pub mod Parting
+pub mod Receiving
 pub mod Records
 pub mod Pieces
 pub mod Reading

@@ -6,6 +6,7 @@ use lib.Dec.{eqb, ltb}
 use lib.ListN.{length, take, drop}
 use Rattle.edition.specs.declared.Search.{Search}
 use Rattle.edition.specs.declared.Verdict.{Verdict}
+use Rattle.edition.specs.declared.Verdict.the-variants.{Taken, Refused}
 use Rattle.edition.specs.declared.Why.the-variants.{BadLength, NoRoom, BadEntry}
 use Rattle.edition.specs.Limits.{linkWidth, entryWidth}
 use Rattle.edition.specs.Stored.{editionLimits, blockBytes, entryBytes}
@@ -21,6 +22,8 @@ use Rattle.table.specs.Table.{table, entriesIn}
 use Rattle.block.specs.Bytes.{numberIn}
 use Rattle.block.specs.Block.{blockVerdict}
 use Rattle.archive.specs.declared.Header.{Header}
+use Rattle.archive.specs.declared.ReadAnswer.{ReadAnswer}
+use Rattle.archive.specs.declared.ReadAnswer.the-variants.{Is, Not}
 use Rattle.archive.specs.Parts.{blockCount, partAt, linkPlace, entryPlace}
 use Rattle.record.specs.Record.{entryRecord}
 
@@ -100,6 +103,14 @@ restVerdict file rows =
 -- The order for a file.
 unfoldable pub readVerdict : List ℕ → Rows → Verdict
 readVerdict file rows = let rest = restVerdict file rows in firstly (headVerdict file ∷ rest ∷ [])
+
+-- What the header says where the verdict is taken, else the refusal.
+abbrev pub readIf : Verdict → Header → ReadAnswer
+readIf Taken head = Is head
+readIf (Refused r) head = Not r
+
+unfoldable pub readAnswer : List ℕ → Rows → ReadAnswer
+readAnswer file rows = readIf (readVerdict file rows) (headRead file)
 
 -- What the lent rows then hold: links, parents and entries of the file, and what lay past them; on a refusal what they held.
 unfoldable pub rowsRead : List ℕ → Rows → Rows

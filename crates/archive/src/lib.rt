@@ -4,7 +4,7 @@ ghost use Prim.Native.Nat.{_+_, _*_, _-_, _<_, _≤_, _^_, min};
 ghost use mathlib.Core.List.{_++_};
 ghost use lib.ListN.{length, take, drop};
 ghost use lib.Seq.{sets};
-ghost use Rattle.edition.specs.Limits.{nodeLimit, linkLimit, linkWidth};
+ghost use Rattle.edition.specs.Limits.{nodeLimit, linkLimit, linkWidth, entryWidth};
 ghost use Rattle.edition.specs.Stored.{frontBytes, blockBytes, entryBytes, blockLimit};
 ghost use Rattle.network.specs.Network.{netOf, linksIn};
 ghost use Rattle.sound.specs.Sound.{netVerdict};
@@ -14,7 +14,8 @@ ghost use Rattle.archive.specs.Work.{heldBytes, recordIn, laid, Held, Ta
 ghost use Rattle.rows.specs.Count.{rowWith};
 ghost use Rattle.rows.specs.Lists.{same};
 ghost use Rattle.rows.specs.First.{firstTo, verdictTo};
-ghost use Rattle.archive.specs.Reader.{blockRefusal, headRead, netRead, unequal, headVerdict, tight, readVerdict};
+ghost use Rattle.archive.specs.Reader.{blockRefusal, headRead, netRead, unequal, headVerdict, tight, readVerdict, readAnswer, rowsRead, nodesRead, linksRead, linkRow, parentRow};
+ghost use Rattle.table.specs.Table.{table};
 ghost use Rattle.archive.specs.Writer.{blockOf, fileOf, fileLength, writeVerdict, writeAnswer, writtenRow};
 ghost use Rattle.edition.specs.declared.Verdict.the-variants.{Taken};
 ghost use Rattle.archive.specs.Parts.{blocksFor, linkBlocks, blockCount, partOf, partAt, linkPlace, entryPlace};
@@ -40,6 +41,12 @@ pub struct Header {
     pub nodes: usize,
     pub links: usize,
     pub search: Search,
+}
+
+// What the header of an accepted file says, or why it is not accepted.
+pub enum ReadAnswer {
+    Is(Header),
+    Not(Refusal),
 }
 
 // The length of the file written, or why there is none.
@@ -538,4 +545,31 @@ pub fn check_read(file: &[u8], links: &[u16], parents: &[u16], entries: &[u64]) 
         return blocks;
     };
     check_records(file, head, is_tight(head, links, parents, entries))
+}
+
+// What an accepted file holds, at the beginning of the lent rows.
+fn fill_rows(file: &[u8], links: &mut [u16], parents: &mut [u16], entries: &mut [u64]) -> Header
+    requires { ⌜ readVerdict (now file) (record { links = now links; parents = now parents; entries = now entries }) ≡ Taken ⌝ }
+    ensures { λ r. ⌜ (r ≡ headRead (now (file .entry))) × (now (links .exit) ≡ linkRow (now (file .entry)) ++ drop (linksRead (now (file .entry)) * linkWidth) (now (links .entry))) × (now (parents .exit) ≡ parentRow (now (file .entry)) ++ drop (nodesRead (now (file .entry))) (now (parents .entry))) × (now (entries .exit) ≡ table (netRead (now (file .entry))) ++ drop (nodesRead (now (file .entry)) * entryWidth) (now (entries .entry))) ⌝ }
+{
+    let head = header_of(file);
+    let n = head.nodes;
+    let m = head.links;
+    let count = m * Memory::LINK;
+    fill_links(file, m, links);
+    fill_parents(file, m, n, parents);
+    table::table(&links[0..count], &parents[0..n], head.search, entries);
+    head
+}
+
+// The rows of links, parents and entries that a file holds, and what its header says. Accepted is the one file of its network and
+// depth, and no other. Nothing is written on a refusal, nor past the records.
+pub fn read(file: &[u8], links: &mut [u16], parents: &mut [u16], entries: &mut [u64]) -> ReadAnswer
+    ensures { λ r. ⌜ (r ≡ readAnswer (now (file .entry)) (record { links = now (links .entry); parents = now (parents .entry); entries = now (entries .entry) })) × (now (links .exit) ≡ rowsRead (now (file .entry)) (record { links = now (links .entry); parents = now (parents .entry); entries = now (entries .entry) }) .links) × (now (parents .exit) ≡ rowsRead (now (file .entry)) (record { links = now (links .entry); parents = now (parents .entry); entries = now (entries .entry) }) .parents) × (now (entries .exit) ≡ rowsRead (now (file .entry)) (record { links = now (links .entry); parents = now (parents .entry); entries = now (entries .entry) }) .entries) ⌝ }
+{
+    let said = check_read(file, links, parents, entries);
+    match said {
+        Verdict::Taken => ReadAnswer::Is(fill_rows(file, links, parents, entries)),
+        Verdict::Refused(why) => ReadAnswer::Not(why),
+    }
 }

@@ -1,14 +1,9 @@
 -- `record::byte_at` meets its contract. Assumes nothing.
-use native.Mathlib.Omega.{arith}
-use mathlib.Core.Path.{sym, ap₂, _∙_}
-use Prim.Native.Nat.{_+_, _*_}
+use mathlib.Core.Path.{sym}
 use lib.ListN.{List·getD-eq-default}
-use Rattle.record.proofs.Getting.{two-past, two-is}
 use borrow.Author.Needs.{needs}
 use Rattle.record.proofs.byte_at.Statement.{statement}
 use Rattle.record.proofs.byte_at.Tie as tie
-use Rattle.record.proofs.byte_at.Reads as reads
-use Rattle.record.proofs.byte_at.Lts as lts
 
 shared-slice-read-result : tie.Need-shared-slice-read-result
 shared-slice-read-result c = search needs

@@ -1,15 +1,8 @@
 -- `record::two_at` meets its contract. Assumes nothing.
-use native.Mathlib.Omega.{arith}
-use mathlib.Core.Path.{sym, ap₂, _∙_}
-use Prim.Native.Nat.{_+_, _*_}
-use lib.ListN.{List·getD-eq-default}
 use Rattle.record.proofs.Getting.{two-past, two-is}
 use borrow.Author.Needs.{needs}
 use Rattle.record.proofs.two_at.Statement.{statement}
 use Rattle.record.proofs.two_at.Tie as tie
-use Rattle.record.proofs.two_at.Reads as reads
-use Rattle.record.proofs.two_at.Lts as lts
-use Rattle.record.proofs.byte_at.Reads as byte-at-reads
 
 returns : tie.Need-returns
 returns c = two-past (c .before .before .args .bytes .now) _ (c .if1 .taken)
