@@ -25,7 +25,7 @@ use Rattle.network.specs.Records.{badMark}
 use Rattle.tree.specs.Tree.{treeOf, under}
 use Rattle.sound.specs.Sound.{netVerdict}
 use Rattle.sound.proofs.Sounds.{taken}
-use Rattle.sound.proofs.Holding.{nodes-few, first-in, second-in, link-path}
+use Rattle.sound.proofs.Holding.{nodes-few, root-in, first-in, second-in, link-path}
 use Rattle.table.specs.Table.{marked, freshAt, freshRow, tableVerdict, entriesIn}
 use Rattle.table.specs.Work.{Moved}
 use Rattle.table.proofs.Whole.{table-room}
@@ -104,6 +104,10 @@ module _ (links parents : List ℕ) (search : Search) (entries : List ℕ) (c : 
   few : length parents ≤ nodeLimit
   unfolding netOf
   few = nodes-few (netOf links parents search) (a .before)
+
+  pub root-node : search .root < length parents
+  unfolding netOf
+  root-node = root-in (netOf links parents search) (a .before)
 
   pub marks-room : length parents ≤ length (replicate {A = ℕ} nodeLimit 0)
   marks-room = omega (arith, few, length-replicate {A = ℕ} nodeLimit 0)

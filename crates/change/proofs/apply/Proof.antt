@@ -1,5 +1,6 @@
 -- `change::apply` meets its contract. Assumes nothing.
-use Rattle.change.proofs.Applying.{apply-sound, apply-there, marks-room, first-node, second-node, marks-still, apply-is}
+use native.Mathlib.Omega.{arith}
+use Rattle.change.proofs.Applying.{root-node, apply-sound, apply-there, marks-room, first-node, second-node, marks-still, apply-is}
 use borrow.Author.Needs.{needs}
 use Rattle.change.proofs.apply.Statement.{statement}
 use Rattle.change.proofs.apply.Tie as tie
@@ -26,7 +27,7 @@ cast-flip-up-2 : tie.Need-cast-flip-up-2
 cast-flip-up-2 c = search needs
 
 flip-up-requires-2 : tie.Need-flip-up-requires-2
-flip-up-requires-2 c κs = (apply-sound _ _ _ _ _ (c .before .before .before .before .before .before .before .before .before .before .before .before .before .before .pre), second-node _ _ _ _ _ (c .before .before .before .before .before .before .before .before .before .before .before .before .before .before .pre) _ (c .before .before .before .before .before .before .before .before .link-at .ensures), marks-still _ _ _ _ _ (c .before .before .before .before .before .before .before .before .before .before .before .before .before .before .pre) _ (c .before .before .before .before .before .before .before .before .link-at .ensures) _ (c .before .before .before .before .flip-up .ensures))
+flip-up-requires-2 c κs = (apply-sound _ _ _ _ _ (c .before .before .before .before .before .before .before .before .before .before .before .before .before .before .pre), omega (arith, second-node _ _ _ _ _ (c .before .before .before .before .before .before .before .before .before .before .before .before .before .before .pre) _ (c .before .before .before .before .before .before .before .before .link-at .ensures), root-node _ _ _ _ _ (c .before .before .before .before .before .before .before .before .before .before .before .before .before .before .pre)), marks-still _ _ _ _ _ (c .before .before .before .before .before .before .before .before .before .before .before .before .before .before .pre) _ (c .before .before .before .before .before .before .before .before .link-at .ensures) _ (c .before .before .before .before .flip-up .ensures))
 
 cast-set-link : tie.Need-cast-set-link
 cast-set-link c = search needs
