@@ -1,4 +1,4 @@
-// The file of a network and depth: which block holds which records, and the writer.
+// The file of a network and depth: which block holds which records, the writer and the reader.
 ghost use mathlib.Core.Path.{_≡_};
 ghost use Prim.Native.Nat.{_+_, _*_, _-_, _<_, _≤_, _^_, min};
 ghost use mathlib.Core.List.{_++_};
