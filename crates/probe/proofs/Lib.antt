@@ -1,4 +1,2 @@
 pub mod Behind
-pub mod Copying
 pub mod Keeping
-pub mod Placing

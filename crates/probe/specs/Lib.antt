@@ -1,3 +1,3 @@
 pub mod Input
 pub mod Limits
-pub mod Output
+pub mod Rest

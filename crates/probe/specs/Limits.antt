@@ -19,7 +19,7 @@ mostRoom = 40000
 
 -- The ops of the probe's table are 1 to this one.
 abbrev pub lastOp : ℕ
-lastOp = 6
+lastOp = 8
 
 -- The op that lends three rows, and the other one behind whose parents bytes follow.
 abbrev pub readOp : ℕ
@@ -39,6 +39,10 @@ takesBytes op = eqb op readOp || eqb op payloadOp
 -- The most that may follow the parents.
 unfoldable pub mostRest : ℕ → ℕ
 mostRest op = cond (takesBytes op) mostBytes mostLinks
+
+-- The kind that op 8 asks for: 0, which is none of the three, where the number does not fit a byte.
+unfoldable pub kindAsked : ℕ → ℕ
+kindAsked a = cond (ltb 255 a) 0 a
 
 -- Is one of the three rows that op 7 lends over its limit?
 unfoldable pub overRows : Head → Bool

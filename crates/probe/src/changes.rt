@@ -2,7 +2,7 @@
 ghost use Prim.Native.Nat.{_*_, _≤_};
 ghost use lib.ListN.{length};
 ghost use Rattle.edition.specs.Limits.{entryWidth};
-use crate::output;
+use crate::rest;
 use crate::tables;
 use edition::Change;
 use edition::Memory;
@@ -47,7 +47,7 @@ fn is_kept(said: Verdict, links: &[u16], copy: &[u16], e: u16) -> bool {
 }
 
 // Prints the record of link e, where there is one.
-fn put_link(out: &mut [u8], at: usize, links: &[u16], e: u16) -> usize
+pub fn put_link(out: &mut [u8], at: usize, links: &[u16], e: u16) -> usize
     requires { ⌜ at ≤ length (now out) ⌝ }
     ensures { λ r. ⌜ r ≤ length (now (out .exit)) ⌝ }
 {
@@ -57,9 +57,8 @@ fn put_link(out: &mut [u8], at: usize, links: &[u16], e: u16) -> usize
     let mut waits = output::put(out, at, b"link");
     let mut i = 0;
     while i < Memory::LINK {
-        let spaced = output::put_space(out, waits);
         let number = rows::at(links, e as usize * Memory::LINK + i, 0);
-        waits = output::put_number(out, spaced, number as u64);
+        waits = output::put_field(out, waits, number as u64);
         i += 1;
     }
     output::put_newline(out, waits)
@@ -79,9 +78,9 @@ fn put_kept(out: &mut [u8], at: usize, kept: bool) -> usize
 fn put_said(out: &mut [u8], at: usize, said: Verdict) -> usize
     ensures { λ r. ⌜ r ≤ length (now (out .exit)) ⌝ }
 {
-    let named = output::put(out, at, b"change");
+    let named = output::put(out, at, b"change ");
     match said {
-        Verdict::Taken => output::put(out, named, b" ok\n"),
+        Verdict::Taken => output::put(out, named, b"ok\n"),
         Verdict::Refused(refusal) => output::put_refusal(out, named, refusal),
     }
 }
@@ -104,7 +103,7 @@ fn put_left(
     let linked = put_link(out, told, links, e);
     let listed = tables::put_entries(out, linked, row, n);
     let kept = put_kept(out, listed, is_kept(said, links, copy, e));
-    tables::put_rest(out, kept, row, n * Memory::ENTRY)
+    rest::put(out, kept, rest::is_kept_wide(row, n * Memory::ENTRY))
 }
 
 // The smaller of two numbers.
@@ -153,7 +152,7 @@ pub fn change_table(
     match said {
         Verdict::Taken => change(links, parents, search, wanted, row, copy, out, at),
         Verdict::Refused(refusal) => {
-            let named = output::put(out, at, b"table");
+            let named = output::put(out, at, b"table ");
             output::put_refusal(out, named, refusal)
         }
     }

@@ -1,41 +1,12 @@
 // Op 6: the file.
-ghost use mathlib.Core.Path.{_≡_};
 ghost use Prim.Native.Nat.{_≤_};
 ghost use lib.ListN.{length};
-ghost use Rattle.rows.specs.Count.{rowWith};
-ghost use Rattle.probe.specs.Output.{byteMark};
-use crate::output;
+use crate::rest;
 use archive::WriteAnswer;
 use edition::Search;
 
-// The byte that a lent file is filled with.
-const FILL: u8 = 165;
-
 // Bytes a line.
 const LINE: usize = 32;
-
-// Fills a row of bytes.
-fn fill(file: &mut [u8])
-    ensures { λ _. ⌜ now (file .exit) ≡ rowWith (λ i. byteMark) (length (now (file .entry))) (now (file .entry)) ⌝ }
-{
-    let mut i = 0;
-    while i < file.len() {
-        file[i] = FILL;
-        i += 1;
-    }
-}
-
-// Whether all bytes from a place on are as they were filled.
-fn is_kept(file: &[u8], from: usize) -> bool {
-    let mut i = from;
-    while i < file.len() {
-        if file[i] != FILL {
-            return false;
-        }
-        i += 1;
-    }
-    true
-}
 
 // Prints a byte, and ends the line behind the last one of a line.
 fn put_byte(out: &mut [u8], at: usize, byte: u8, i: usize) -> usize
@@ -49,7 +20,7 @@ fn put_byte(out: &mut [u8], at: usize, byte: u8, i: usize) -> usize
 }
 
 // Prints the bytes of a row, so many a line.
-fn put_bytes(out: &mut [u8], at: usize, file: &[u8]) -> usize
+pub fn put_bytes(out: &mut [u8], at: usize, file: &[u8]) -> usize
     requires { ⌜ at ≤ length (now out) ⌝ }
     ensures { λ r. ⌜ r ≤ length (now (out .exit)) ⌝ }
 {
@@ -65,22 +36,12 @@ fn put_bytes(out: &mut [u8], at: usize, file: &[u8]) -> usize
     output::put_newline(out, waits)
 }
 
-// Prints `rest kept` or `rest changed` for a row of bytes from a place on.
-fn put_rest(out: &mut [u8], at: usize, file: &[u8], from: usize) -> usize
-    ensures { λ r. ⌜ r ≤ length (now (out .exit)) ⌝ }
-{
-    if is_kept(file, from) {
-        return output::put(out, at, b"rest kept\n");
-    }
-    output::put(out, at, b"rest changed\n")
-}
-
 // Prints the length of a file that was written, and its bytes.
 fn put_file(out: &mut [u8], at: usize, file: &[u8], size: usize) -> usize
     ensures { λ r. ⌜ r ≤ length (now (out .exit)) ⌝ }
 {
-    let named = output::put(out, at, b" ok ");
-    let told = output::put_number(out, named, size as u64);
+    let named = output::put(out, at, b"ok");
+    let told = output::put_field(out, named, size as u64);
     let ended = output::put_newline(out, told);
     if file.len() < size {
         return ended;
@@ -92,15 +53,15 @@ fn put_file(out: &mut [u8], at: usize, file: &[u8], size: usize) -> usize
 fn put_written(said: WriteAnswer, file: &[u8], out: &mut [u8], at: usize) -> usize
     ensures { λ r. ⌜ r ≤ length (now (out .exit)) ⌝ }
 {
-    let named = output::put(out, at, b"write");
+    let named = output::put(out, at, b"write ");
     match said {
         WriteAnswer::Is(size) => {
             let listed = put_file(out, named, file, size);
-            put_rest(out, listed, file, size)
+            rest::put(out, listed, rest::is_kept_bytes(file, size))
         }
         WriteAnswer::Not(refusal) => {
             let listed = output::put_refusal(out, named, refusal);
-            put_rest(out, listed, file, 0)
+            rest::put(out, listed, rest::is_kept_bytes(file, 0))
         }
     }
 }
@@ -120,7 +81,7 @@ pub fn write(
     if file.len() < room {
         return output::flush(out, at);
     }
-    fill(file);
+    rest::fill_bytes(file);
     let said = archive::write(links, parents, search, &mut file[0..room]);
     put_written(said, &file[0..room], out, at)
 }

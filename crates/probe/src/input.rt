@@ -1,7 +1,7 @@
 // What is read: the heads of cases, and the words and bytes behind them.
 ghost use mathlib.Core.Path.{_≡_};
 ghost use Prim.Native.Nat.{_+_, _*_, _≤_, _<_};
-ghost use lib.ListN.{length, take, drop};
+ghost use lib.ListN.{length, drop};
 ghost use Rattle.rows.specs.Count.{rowWith};
 ghost use Rattle.probe.specs.Input.{wordIn, longIn, headIn, HeadRead, rowRead};
 ghost use Rattle.probe.specs.Limits.{mostRest, overRows, isOver};
@@ -175,14 +175,4 @@ pub fn read_rows(head: Head, links: &mut [u16], parents: &mut [u16], bytes: &mut
         return read_bytes(bytes, head.rest);
     }
     read_words(bytes, links, head.rest)
-}
-
-// What a case put into a row: its first n numbers, or all of it where it has fewer.
-pub fn first(row: &[u16], n: usize) -> &[u16]
-    ensures { λ r. ⌜ now r ≡ take n (now (row .entry)) ⌝ }
-{
-    if row.len() < n {
-        return row;
-    }
-    &row[0..n]
 }

@@ -1,5 +1,6 @@
 // The library from the outside: reads cases from standard input, and prints what the public functions answer and what they
 // leave in the lent rows. The rows are made once, and every case uses them again.
+mod blocks;
 mod changes;
 mod checking;
 mod files;
@@ -7,7 +8,8 @@ mod input;
 mod limits;
 mod maps;
 mod ops;
-mod output;
+mod reading;
+mod rest;
 mod tables;
 
 use input::Head;

@@ -1,8 +1,7 @@
 // Op 3: the unprotected map.
 ghost use Prim.Native.Nat.{_≤_};
 ghost use lib.ListN.{length};
-use crate::output;
-use crate::tables;
+use crate::rest;
 use edition::Memory;
 use edition::Search;
 use map::MapAnswer;
@@ -15,8 +14,7 @@ fn put_words(out: &mut [u8], at: usize, row: &[u64]) -> usize
     let mut waits = at;
     let mut i = 0;
     while i < Memory::WORDS {
-        let spaced = output::put_space(out, waits);
-        waits = output::put_number(out, spaced, rows::wide_at(row, i));
+        waits = output::put_field(out, waits, rows::wide_at(row, i));
         i += 1;
     }
     output::put_newline(out, waits)
@@ -26,10 +24,9 @@ fn put_words(out: &mut [u8], at: usize, row: &[u64]) -> usize
 fn put_told(out: &mut [u8], at: usize, told: Unprotected, row: &[u64]) -> usize
     ensures { λ r. ⌜ r ≤ length (now (out .exit)) ⌝ }
 {
-    let named = output::put(out, at, b" ok ");
-    let counted = output::put_number(out, named, told.count as u64);
-    let spaced = output::put_space(out, counted);
-    let lowest = output::put_number(out, spaced, told.lowest as u64);
+    let named = output::put(out, at, b"ok");
+    let counted = output::put_field(out, named, told.count as u64);
+    let lowest = output::put_field(out, counted, told.lowest as u64);
     put_words(out, lowest, row)
 }
 
@@ -37,15 +34,15 @@ fn put_told(out: &mut [u8], at: usize, told: Unprotected, row: &[u64]) -> usize
 fn put_map(said: MapAnswer, row: &[u64], out: &mut [u8], at: usize) -> usize
     ensures { λ r. ⌜ r ≤ length (now (out .exit)) ⌝ }
 {
-    let named = output::put(out, at, b"map");
+    let named = output::put(out, at, b"map ");
     match said {
         MapAnswer::Is(told) => {
             let listed = put_told(out, named, told, row);
-            tables::put_rest(out, listed, row, Memory::WORDS)
+            rest::put(out, listed, rest::is_kept_wide(row, Memory::WORDS))
         }
         MapAnswer::Not(refusal) => {
             let listed = output::put_refusal(out, named, refusal);
-            tables::put_rest(out, listed, row, 0)
+            rest::put(out, listed, rest::is_kept_wide(row, 0))
         }
     }
 }
@@ -65,7 +62,7 @@ pub fn map(
     if row.len() < room {
         return output::flush(out, at);
     }
-    tables::fill(row);
+    rest::fill_wide(row);
     let said = map::unprotected_map(links, parents, search, &mut row[0..room]);
     put_map(said, &row[0..room], out, at)
 }

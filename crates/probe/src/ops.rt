@@ -4,13 +4,14 @@ ghost use mathlib.Core.Path.{_≡_};
 ghost use Prim.Native.Nat.{_≤_};
 ghost use lib.ListN.{length};
 ghost use Rattle.probe.specs.Limits.{isOp, takesBytes};
+use crate::blocks;
 use crate::changes;
 use crate::checking;
 use crate::files;
-use crate::input;
 use crate::input::Head;
 use crate::maps;
-use crate::output;
+use crate::reading;
+use crate::rest;
 use crate::tables;
 use edition::Change;
 
@@ -37,7 +38,7 @@ pub fn is_op(op: u16) -> bool
     if op < CHECK {
         return false;
     }
-    op <= WRITE
+    op <= PAYLOAD
 }
 
 // Whether bytes follow the parents, not link numbers.
@@ -71,7 +72,7 @@ fn change(
     if row.len() < room {
         return output::flush(out, at);
     }
-    tables::fill(row);
+    rest::fill_wide(row);
     let change = Change {
         link: head.a,
         mark: head.b,
@@ -101,6 +102,40 @@ fn change(
     )
 }
 
+// Prints what op 7 answers: the file read into a link numbers, b parents and c entry numbers.
+fn read(
+    head: Head,
+    links: &mut [u16],
+    parents: &mut [u16],
+    row: &mut [u64],
+    bytes: &[u8],
+    out: &mut [u8],
+    at: usize,
+) -> usize
+    ensures { λ r. ⌜ r ≤ length (now (out .exit)) ⌝ }
+{
+    let a = head.a as usize;
+    let b = head.b as usize;
+    let c = head.c as usize;
+    if links.len() < a {
+        return output::flush(out, at);
+    }
+    if parents.len() < b {
+        return output::flush(out, at);
+    }
+    if row.len() < c {
+        return output::flush(out, at);
+    }
+    reading::read(
+        bytes,
+        &mut links[0..a],
+        &mut parents[0..b],
+        &mut row[0..c],
+        out,
+        at,
+    )
+}
+
 // Prints what the head's op answers. `links`, `parents` and `bytes` begin with what was read. The room that a case lends is the
 // beginning of `row` or `file`, and for op 7 that of `links`, `parents` and `row`; `copy` is room for a copy of `links`.
 pub fn answer(
@@ -119,8 +154,8 @@ pub fn answer(
     let op = head.op;
     if op == CHECK {
         return checking::check(
-            input::first(links, head.rest),
-            input::first(parents, head.parents),
+            rows::first(links, head.rest),
+            rows::first(parents, head.parents),
             head.search,
             out,
             at,
@@ -128,8 +163,8 @@ pub fn answer(
     }
     if op == TABLE {
         return tables::table(
-            input::first(links, head.rest),
-            input::first(parents, head.parents),
+            rows::first(links, head.rest),
+            rows::first(parents, head.parents),
             head.search,
             row,
             head.room,
@@ -139,8 +174,8 @@ pub fn answer(
     }
     if op == MAP {
         return maps::map(
-            input::first(links, head.rest),
-            input::first(parents, head.parents),
+            rows::first(links, head.rest),
+            rows::first(parents, head.parents),
             head.search,
             row,
             head.room,
@@ -149,23 +184,33 @@ pub fn answer(
         );
     }
     if op == CHANGE {
-        let named = input::first(parents, head.parents);
+        let named = rows::first(parents, head.parents);
         return change(head, true, links, named, row, copy, out, at);
     }
     if op == CHANGE_UNFILLED {
-        let named = input::first(parents, head.parents);
+        let named = rows::first(parents, head.parents);
         return change(head, false, links, named, row, copy, out, at);
     }
     if op == WRITE {
         return files::write(
-            input::first(links, head.rest),
-            input::first(parents, head.parents),
+            rows::first(links, head.rest),
+            rows::first(parents, head.parents),
             head.search,
             file,
             head.room,
             out,
             at,
         );
+    }
+    let rest = head.rest;
+    if bytes.len() < rest {
+        return output::flush(out, at);
+    }
+    if op == READ {
+        return read(head, links, parents, row, &bytes[0..rest], out, at);
+    }
+    if op == PAYLOAD {
+        return blocks::payload(head.a, head.b, head.c, &bytes[0..rest], out, at);
     }
     output::flush(out, at)
 }

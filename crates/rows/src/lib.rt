@@ -1,6 +1,6 @@
 // Numbers in lent rows: total reads, and what a search found as a verdict.
 ghost use mathlib.Core.Path.{_≡_};
-ghost use lib.ListN.{getD, set};
+ghost use lib.ListN.{getD, take};
 ghost use Rattle.rows.specs.First.{orHere, refuseIf, refusedAt};
 use edition::Found;
 use edition::Refusal;
@@ -19,6 +19,16 @@ pub fn wide_at(row: &[u64], i: usize) -> u64
     ensures { λ r. ⌜ r ≡ getD (now (row .entry)) i 0 ⌝ }
 {
     if i < row.len() { row[i] } else { 0 }
+}
+
+// The first n numbers of a row, or all of it where it has fewer: that part of the lent row, no copy.
+pub fn first(row: &[u16], n: usize) -> &[u16]
+    ensures { λ r. ⌜ now r ≡ take n (now (row .entry)) ⌝ }
+{
+    if row.len() < n {
+        return row;
+    }
+    &row[0..n]
 }
 
 // Refused for this reason and at this place where the test holds.

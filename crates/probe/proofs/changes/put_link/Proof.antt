@@ -28,9 +28,6 @@ put-requires c κs = search needs
 loop-holds : tie.Need-loop-holds Inv-loop μ-loop
 loop-holds c = search needs
 
-put-space-requires : tie.Need-put-space-requires Inv-loop μ-loop
-put-space-requires c κs = search needs
-
 mul-at : tie.Need-mul-at Inv-loop μ-loop
 mul-at c = search needs
 
@@ -40,11 +37,11 @@ add-at c = search needs
 at-requires : tie.Need-at-requires Inv-loop μ-loop
 at-requires c κs = search needs
 
-cast-put-number : tie.Need-cast-put-number Inv-loop μ-loop
-cast-put-number c = search needs
+cast-put-field : tie.Need-cast-put-field Inv-loop μ-loop
+cast-put-field c = search needs
 
-put-number-requires : tie.Need-put-number-requires Inv-loop μ-loop
-put-number-requires c κs = search needs
+put-field-requires : tie.Need-put-field-requires Inv-loop μ-loop
+put-field-requires c κs = search needs
 
 add-i : tie.Need-add-i Inv-loop μ-loop
 add-i c = search needs
@@ -75,12 +72,11 @@ put-link-spec =
     slice-aggregate-put
     put-requires
     loop-holds
-    put-space-requires
     mul-at
     add-at
     at-requires
-    cast-put-number
-    put-number-requires
+    cast-put-field
+    put-field-requires
     add-i
     loop-less
     loop-again

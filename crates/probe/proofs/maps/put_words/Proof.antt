@@ -16,14 +16,11 @@ abbrev μ-loop : tie.MeasureT-loop
 loop-holds : tie.Need-loop-holds Inv-loop μ-loop
 loop-holds c = search needs
 
-put-space-requires : tie.Need-put-space-requires Inv-loop μ-loop
-put-space-requires c κs = search needs
-
 wide-at-requires : tie.Need-wide-at-requires Inv-loop μ-loop
 wide-at-requires c κs = search needs
 
-put-number-requires : tie.Need-put-number-requires Inv-loop μ-loop
-put-number-requires c κs = search needs
+put-field-requires : tie.Need-put-field-requires Inv-loop μ-loop
+put-field-requires c κs = search needs
 
 add-i : tie.Need-add-i Inv-loop μ-loop
 add-i c = search needs
@@ -50,9 +47,8 @@ put-words-spec =
     Inv-loop
     μ-loop
     loop-holds
-    put-space-requires
     wide-at-requires
-    put-number-requires
+    put-field-requires
     add-i
     loop-less
     loop-again

@@ -1,3 +1,4 @@
+-- `probe::tables::put_entry` meets its contract. Assumes nothing.
 use Rattle.edition.specs.Limits.{entryWidth}
 use lib.ListN.{length}
 use Prim.Native.Nat.{_-_}
@@ -18,9 +19,6 @@ put-number-requires c κs = search needs
 loop-holds : tie.Need-loop-holds Inv-loop μ-loop
 loop-holds c = search needs
 
-put-space-requires : tie.Need-put-space-requires Inv-loop μ-loop
-put-space-requires c κs = search needs
-
 mul-wide-at : tie.Need-mul-wide-at Inv-loop μ-loop
 mul-wide-at c = search needs
 
@@ -30,8 +28,8 @@ add-wide-at c = search needs
 wide-at-requires : tie.Need-wide-at-requires Inv-loop μ-loop
 wide-at-requires c κs = search needs
 
-put-number-requires-2 : tie.Need-put-number-requires-2 Inv-loop μ-loop
-put-number-requires-2 c κs = search needs
+put-field-requires : tie.Need-put-field-requires Inv-loop μ-loop
+put-field-requires c κs = search needs
 
 add-i : tie.Need-add-i Inv-loop μ-loop
 add-i c = search needs
@@ -59,11 +57,10 @@ put-entry-spec =
     μ-loop
     put-number-requires
     loop-holds
-    put-space-requires
     mul-wide-at
     add-wide-at
     wide-at-requires
-    put-number-requires-2
+    put-field-requires
     add-i
     loop-less
     loop-again
