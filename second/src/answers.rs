@@ -17,16 +17,58 @@ const REST: &str = "rest kept\n";
 const LINKS: &str = "links kept\n";
 
 /// All that the probe must print for an input.
-pub fn answers(mut input: &[u8]) -> String {
-    let mut text = String::new();
+pub fn answers(input: &[u8]) -> String {
+    parts(input).iter().map(|part| part.text.as_str()).collect()
+}
+
+/// A part of an input, a case or what ends it, and what must be printed for it.
+struct Part<'a> {
+    bytes: &'a [u8],
+    text: String,
+}
+
+fn parts(mut input: &[u8]) -> Vec<Part<'_>> {
+    let mut list = Vec::new();
     loop {
-        match next(&mut input) {
-            Next::Case(case) => text += &answer(&case),
-            Next::Unknown => return text + "unknown\n",
-            Next::TooLong => return text + "too long\n",
-            Next::End => return text,
+        let before = input;
+        let (text, ends) = match next(&mut input) {
+            Next::Case(case) => (answer(&case), false),
+            Next::Unknown => ("unknown\n".to_string(), true),
+            Next::TooLong => ("too long\n".to_string(), true),
+            Next::End => (String::new(), true),
+        };
+        let bytes = match ends {
+            true => before,
+            false => &before[..before.len() - input.len()],
+        };
+        list.push(Part { bytes, text });
+        if ends {
+            return list;
         }
     }
+}
+
+/// The first case for which something else was printed than must be: its
+/// number from 0, its bytes, what must be printed and what is.
+pub fn first_difference(input: &[u8], printed: &str) -> Option<String> {
+    let list = parts(input);
+    let mut rest = printed;
+    for (i, part) in list.iter().enumerate() {
+        let last = i + 1 == list.len();
+        match rest.strip_prefix(part.text.as_str()) {
+            Some(more) if !last || more.is_empty() => rest = more,
+            _ => {
+                let lines: Vec<&str> = rest.lines().take(part.text.lines().count() + 1).collect();
+                return Some(format!(
+                    "case {i}\n{}must print\n{}prints\n{}\n",
+                    byte_lines(part.bytes),
+                    part.text,
+                    lines.join("\n"),
+                ));
+            }
+        }
+    }
+    None
 }
 
 /// What the probe must print for one case.

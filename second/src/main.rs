@@ -1,7 +1,7 @@
 //! The second program's command line.
 
-use second::answers::answers;
-use second::cases::{input, ops, series};
+use second::answers::{answers, first_difference};
+use second::cases::{input, kept, ops, series};
 use second::file::write;
 use second::harbour::harbour;
 use second::limits::{LONGEST_LISTED, WHOLE};
@@ -9,12 +9,12 @@ use second::listing::listing;
 use second::samples::samples;
 use second::series::lines;
 use std::env::args;
-use std::io::{stdin, stdout, Read, Result, Write};
+use std::io::{stdin, stdout, Error, Read, Result, Write};
 use std::path::Path;
 use std::process::ExitCode;
 
 const USAGE: &str =
-    "usage: second list | harbour | expect | cases OPS SEED COUNT | files DIR SEED COUNT
+    "usage: second list | harbour | kept | expect | compare PRINTED | cases OPS SEED COUNT | files DIR SEED COUNT
        second series SEED COUNT | series-expect";
 
 fn main() -> ExitCode {
@@ -38,7 +38,9 @@ fn run(words: &[&str]) -> Option<Result<()>> {
     match words {
         ["list"] => Some(answer_input(listing)),
         ["expect"] => Some(answer_input(answers)),
+        ["compare", printed] => Some(compare(Path::new(printed))),
         ["series-expect"] => Some(answer_input(lines)),
+        ["kept"] => Some(print(&kept())),
         ["harbour"] => Some(print(&harbour_file())),
         ["cases", list, seed, count] => {
             let bytes = input(&ops(list)?, seed.parse().ok()?, count.parse().ok()?);
@@ -74,6 +76,18 @@ fn answer_input(function: fn(&[u8]) -> String) -> Result<()> {
     let mut bytes = Vec::new();
     stdin().lock().read_to_end(&mut bytes)?;
     print(function(&bytes).as_bytes())
+}
+
+/// Fails with the first case of the standard input for which the file has
+/// something else than must be printed.
+fn compare(printed: &Path) -> Result<()> {
+    let mut input = Vec::new();
+    stdin().lock().read_to_end(&mut input)?;
+    let printed = std::fs::read(printed)?;
+    match first_difference(&input, &String::from_utf8_lossy(&printed)) {
+        None => Ok(()),
+        Some(text) => Err(Error::other(text)),
+    }
 }
 
 fn write_files(dir: &Path, seed: u64, count: usize) -> Result<()> {

@@ -32,27 +32,50 @@ pub fn spur() -> Rows {
         .with_tree(&mut Rng::new(0))
 }
 
-/// Harbour, one node, two nodes.
+/// A path of four with two far links. Under sum the best for node 1 is link 4;
+/// by weights that leave out the node count it would be link 3.
+pub fn weighed() -> Rows {
+    let links = [[0, 1, 9], [1, 2, 1], [2, 3, 9], [0, 3, 19], [0, 2, 20]];
+    let served = |[a, b, w]: [u16; 3]| [a, b, w, IN_SERVICE];
+    Rows {
+        parents: vec![NO_LINK, 0, 1, 2],
+        links: links.map(served).concat(),
+        root: 0,
+    }
+}
+
+/// Harbour with link 5 at length 2: the best of node 2 does not cross node 1.
+pub fn nearer() -> Rows {
+    let mut rows = harbour();
+    rows.links[4 * 5 + 2] = 2;
+    rows
+}
+
+/// The networks on which document 01's wrong readings give another table.
+fn telling() -> Vec<Named> {
+    let longer = Draft::path(2, 5).join(1, 0, 7);
+    let list = [
+        ("harbour", harbour()),
+        ("spur", spur()),
+        ("weighed", weighed()),
+        ("nearer", nearer()),
+        ("one-longer", longer.with_tree(&mut Rng::new(0))),
+    ];
+    list.map(|(label, rows)| Named { label, rows }).into()
+}
+
+/// The telling ones, one node, two nodes.
 fn tiny() -> Vec<Named> {
     let partial = Rows {
         parents: vec![NO_LINK],
         links: vec![0, 0, 9],
         root: 0,
     };
-    let mut list = vec![
-        Named {
-            label: "harbour",
-            rows: harbour(),
-        },
-        Named {
-            label: "partial-record",
-            rows: partial,
-        },
-        Named {
-            label: "spur",
-            rows: spur(),
-        },
-    ];
+    let mut list = telling();
+    list.push(Named {
+        label: "partial-record",
+        rows: partial,
+    });
     list.extend(with_trees(vec![
         ("one-node", Draft::nodes(1)),
         ("two-nodes", Draft::path(2, LONGEST)),

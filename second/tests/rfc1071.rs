@@ -4,6 +4,8 @@ mod common;
 
 use common::*;
 use second::block::{checksum, ones_sum, right_check};
+use second::cases::blocks::KNOWN;
+use second::limits::{BLOCK, HEAD};
 
 #[test]
 fn the_example_of_the_rfc() {
@@ -67,4 +69,14 @@ fn bytes_6_and_7_are_taken_as_zero() {
     let mut block = hex("4801 0000 0001 1234 0005 0007 0000 ffff");
     block.resize(512, 0);
     assert_eq!(right_check(&block), 0xb7f1);
+}
+
+/// The blocks of zeros with some words, which the probe is asked about too.
+#[test]
+fn the_known_checks() {
+    for (words, check) in KNOWN {
+        let mut block = [0; BLOCK];
+        block[HEAD..HEAD + words.len()].copy_from_slice(words);
+        assert_eq!(right_check(&block), check);
+    }
 }

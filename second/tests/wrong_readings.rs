@@ -7,11 +7,14 @@ mod plain;
 
 use common::*;
 use second::limits::WHOLE;
+use second::named::small;
 use second::network::Rows;
 use second::table::table;
 
-/// The entry of node x that the program gives.
+/// The entry of node x that the program gives. The network is one of those
+/// that every run goes through.
 fn entry(rows: &Rows, depth: u16, x: usize) -> Vec<u64> {
+    assert!(small().iter().any(|named| named.rows == *rows));
     let mut row = vec![7; 7 * rows.parents.len()];
     table(&rows.lend(), depth, &mut row).unwrap();
     row[7 * x..7 * x + 7].to_vec()

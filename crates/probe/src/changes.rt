@@ -2,6 +2,8 @@
 ghost use Prim.Native.Nat.{_*_, _≤_};
 ghost use lib.ListN.{length};
 ghost use Rattle.edition.specs.Limits.{entryWidth};
+use crate::limits::LINKS;
+use crate::limits::ROOM;
 use crate::rest;
 use crate::tables;
 use edition::Change;
@@ -113,36 +115,32 @@ fn smaller(a: usize, b: usize) -> usize
     if a < b { a } else { b }
 }
 
-// Makes the change on the rows as they are, and prints what it answers and leaves.
-pub fn change(
+// Makes the change on the rows as they are, and prints what it answers and leaves. `links` are as `before` had them.
+fn change_row(
+    before: &[u16],
     links: &mut [u16],
     parents: &[u16],
     search: Search,
     change: Change,
     row: &mut [u64],
-    copy: &mut [u16],
     out: &mut [u8],
     at: usize,
 ) -> usize
     ensures { λ r. ⌜ r ≤ length (now (out .exit)) ⌝ }
 {
-    if copy.len() < links.len() {
-        return output::flush(out, at);
-    }
-    copy_row(links, copy);
     let said = change::change(links, parents, search, row, change);
     let n = smaller(parents.len(), row.len() / Memory::ENTRY);
-    put_left(said, links, copy, change.link, row, n, out, at)
+    put_left(said, links, before, change.link, row, n, out, at)
 }
 
 // The same on the table, which is worked out first; where that is refused, its refusal alone is printed.
-pub fn change_table(
+fn change_table(
+    before: &[u16],
     links: &mut [u16],
     parents: &[u16],
     search: Search,
     wanted: Change,
     row: &mut [u64],
-    copy: &mut [u16],
     out: &mut [u8],
     at: usize,
 ) -> usize
@@ -150,10 +148,87 @@ pub fn change_table(
 {
     let said = table::table(links, parents, search, row);
     match said {
-        Verdict::Taken => change(links, parents, search, wanted, row, copy, out, at),
+        Verdict::Taken => change_row(before, links, parents, search, wanted, row, out, at),
         Verdict::Refused(refusal) => {
             let named = output::put(out, at, b"table ");
             output::put_refusal(out, named, refusal)
         }
     }
+}
+
+// The change on a copy of the links at the beginning of a row, with room for the entries at the beginning of another.
+fn change_into(
+    before: &[u16],
+    links: &mut [u16],
+    parents: &[u16],
+    search: Search,
+    wanted: Change,
+    filled: bool,
+    row: &mut [u64],
+    room: usize,
+    out: &mut [u8],
+    at: usize,
+) -> usize
+    ensures { λ r. ⌜ r ≤ length (now (out .exit)) ⌝ }
+{
+    let m = before.len();
+    if links.len() < m {
+        return output::flush(out, at);
+    }
+    if row.len() < room {
+        return output::flush(out, at);
+    }
+    copy_row(before, links);
+    rest::fill_wide(row);
+    if filled {
+        return change_table(
+            before,
+            &mut links[0..m],
+            parents,
+            search,
+            wanted,
+            &mut row[0..room],
+            out,
+            at,
+        );
+    }
+    change_row(
+        before,
+        &mut links[0..m],
+        parents,
+        search,
+        wanted,
+        &mut row[0..room],
+        out,
+        at,
+    )
+}
+
+// Prints what the change answers and leaves, on a table worked out first (`filled`) or on a row that is none.
+pub fn change(
+    links: &[u16],
+    parents: &[u16],
+    search: Search,
+    wanted: Change,
+    filled: bool,
+    room: usize,
+    out: &mut [u8],
+    at: usize,
+) -> usize
+    ensures { λ r. ⌜ r ≤ length (now (out .exit)) ⌝ }
+{
+    let mut own = [0u16; LINKS];
+    let mut row = [0u64; ROOM];
+    change_into(
+        links,
+        &mut own,
+        parents,
+        search,
+        wanted,
+        filled,
+        &mut row,
+        room,
+        out,
+        at,
+    )
 }

@@ -1,6 +1,7 @@
 // Op 6: the file.
 ghost use Prim.Native.Nat.{_≤_};
 ghost use lib.ListN.{length};
+use crate::limits::ROOM;
 use crate::rest;
 use archive::WriteAnswer;
 use edition::Search;
@@ -66,8 +67,8 @@ fn put_written(said: WriteAnswer, file: &[u8], out: &mut [u8], at: usize) -> usi
     }
 }
 
-// Prints the writer's answer and the bytes of the file, and whether the rest of the lent room is kept.
-pub fn write(
+// Writes the file into the first bytes of a row.
+fn write_into(
     links: &[u16],
     parents: &[u16],
     search: Search,
@@ -84,4 +85,19 @@ pub fn write(
     rest::fill_bytes(file);
     let said = archive::write(links, parents, search, &mut file[0..room]);
     put_written(said, &file[0..room], out, at)
+}
+
+// Prints the writer's answer and the bytes of the file, and whether the rest of the lent room is kept.
+pub fn write(
+    links: &[u16],
+    parents: &[u16],
+    search: Search,
+    room: usize,
+    out: &mut [u8],
+    at: usize,
+) -> usize
+    ensures { λ r. ⌜ r ≤ length (now (out .exit)) ⌝ }
+{
+    let mut file = [0u8; ROOM];
+    write_into(links, parents, search, &mut file, room, out, at)
 }

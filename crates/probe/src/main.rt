@@ -1,5 +1,5 @@
 // The library from the outside: reads cases from standard input, and prints what the public functions answer and what they
-// leave in the lent rows. The rows are made once, and every case uses them again.
+// leave in the lent rows.
 mod blocks;
 mod changes;
 mod checking;
@@ -19,7 +19,6 @@ use limits::CASES;
 use limits::LINKS;
 use limits::OUT;
 use limits::PARENTS;
-use limits::ROOM;
 
 // Whether another case follows, and how much waits to be printed.
 enum Next {
@@ -33,10 +32,7 @@ fn answer_case(
     head: Head,
     links: &mut [u16],
     parents: &mut [u16],
-    row: &mut [u64],
     bytes: &mut [u8],
-    file: &mut [u8],
-    copy: &mut [u16],
     out: &mut [u8],
     at: usize,
 ) -> Next {
@@ -49,17 +45,14 @@ fn answer_case(
     if !input::read_rows(head, links, parents, bytes) {
         return Next::Over(at);
     }
-    Next::On(ops::answer(head, links, parents, row, bytes, file, copy, out, at))
+    Next::On(ops::answer(head, links, parents, bytes, out, at))
 }
 
 // Reads the next case and prints what it answers.
 fn next_case(
     links: &mut [u16],
     parents: &mut [u16],
-    row: &mut [u64],
     bytes: &mut [u8],
-    file: &mut [u8],
-    copy: &mut [u16],
     out: &mut [u8],
     at: usize,
 ) -> Next {
@@ -67,23 +60,15 @@ fn next_case(
     let Heading::Is(head) = heading else {
         return Next::Over(at);
     };
-    answer_case(head, links, parents, row, bytes, file, copy, out, at)
+    answer_case(head, links, parents, bytes, out, at)
 }
 
 // Reads cases until one ends the program, and prints what they answer. It ends after `CASES` of them too.
-fn run(
-    links: &mut [u16],
-    parents: &mut [u16],
-    row: &mut [u64],
-    bytes: &mut [u8],
-    file: &mut [u8],
-    copy: &mut [u16],
-    out: &mut [u8],
-) {
+fn run(links: &mut [u16], parents: &mut [u16], bytes: &mut [u8], out: &mut [u8]) {
     let mut at = 0;
     let mut left = CASES;
     while 0 < left {
-        match next_case(links, parents, row, bytes, file, copy, out, at) {
+        match next_case(links, parents, bytes, out, at) {
             Next::On(waits) => at = waits,
             Next::Over(waits) => {
                 output::flush(out, waits);
@@ -98,18 +83,7 @@ fn run(
 fn main() {
     let mut links = [0u16; LINKS];
     let mut parents = [0u16; PARENTS];
-    let mut row = [0u64; ROOM];
     let mut bytes = [0u8; BYTES];
-    let mut file = [0u8; ROOM];
-    let mut copy = [0u16; LINKS];
     let mut out = [0u8; OUT];
-    run(
-        &mut links,
-        &mut parents,
-        &mut row,
-        &mut bytes,
-        &mut file,
-        &mut copy,
-        &mut out,
-    );
+    run(&mut links, &mut parents, &mut bytes, &mut out);
 }

@@ -1,6 +1,7 @@
 // Op 3: the unprotected map.
 ghost use Prim.Native.Nat.{_≤_};
 ghost use lib.ListN.{length};
+use crate::limits::ROOM;
 use crate::rest;
 use edition::Memory;
 use edition::Search;
@@ -47,8 +48,8 @@ fn put_map(said: MapAnswer, row: &[u64], out: &mut [u8], at: usize) -> usize
     }
 }
 
-// Prints the map's answer and words, and whether the rest of the lent room is kept.
-pub fn map(
+// Works the map out into the first words of a row.
+fn map_into(
     links: &[u16],
     parents: &[u16],
     search: Search,
@@ -65,4 +66,19 @@ pub fn map(
     rest::fill_wide(row);
     let said = map::unprotected_map(links, parents, search, &mut row[0..room]);
     put_map(said, &row[0..room], out, at)
+}
+
+// Prints the map's answer and words, and whether the rest of the lent room is kept.
+pub fn map(
+    links: &[u16],
+    parents: &[u16],
+    search: Search,
+    room: usize,
+    out: &mut [u8],
+    at: usize,
+) -> usize
+    ensures { λ r. ⌜ r ≤ length (now (out .exit)) ⌝ }
+{
+    let mut row = [0u64; ROOM];
+    map_into(links, parents, search, &mut row, room, out, at)
 }

@@ -11,7 +11,6 @@ use crate::files;
 use crate::input::Head;
 use crate::maps;
 use crate::reading;
-use crate::rest;
 use crate::tables;
 use edition::Change;
 
@@ -51,153 +50,71 @@ pub fn takes_bytes(op: u16) -> bool
     op == PAYLOAD
 }
 
-// Prints what ops 4 and 5 answer: the change of link a to mark b and length c.
-fn change(
-    head: Head,
-    filled: bool,
-    links: &mut [u16],
-    parents: &[u16],
-    row: &mut [u64],
-    copy: &mut [u16],
-    out: &mut [u8],
-    at: usize,
-) -> usize
-    ensures { λ r. ⌜ r ≤ length (now (out .exit)) ⌝ }
-{
-    let rest = head.rest;
-    let room = head.room;
-    if links.len() < rest {
-        return output::flush(out, at);
-    }
-    if row.len() < room {
-        return output::flush(out, at);
-    }
-    rest::fill_wide(row);
-    let change = Change {
+// The change that a head names: of link a to mark b and length c.
+fn change_of(head: Head) -> Change {
+    Change {
         link: head.a,
         mark: head.b,
         length: head.c,
-    };
-    if filled {
-        return changes::change_table(
-            &mut links[0..rest],
-            parents,
-            head.search,
-            change,
-            &mut row[0..room],
-            copy,
-            out,
-            at,
-        );
+    }
+}
+
+// Prints what an op on a network answers.
+fn answer_network(head: Head, links: &[u16], parents: &[u16], out: &mut [u8], at: usize) -> usize
+    ensures { λ r. ⌜ r ≤ length (now (out .exit)) ⌝ }
+{
+    let op = head.op;
+    let search = head.search;
+    if op == CHECK {
+        return checking::check(links, parents, search, out, at);
+    }
+    if op == TABLE {
+        return tables::table(links, parents, search, head.room, out, at);
+    }
+    if op == MAP {
+        return maps::map(links, parents, search, head.room, out, at);
+    }
+    if op == WRITE {
+        return files::write(links, parents, search, head.room, out, at);
     }
     changes::change(
-        &mut links[0..rest],
+        links,
         parents,
-        head.search,
-        change,
-        &mut row[0..room],
-        copy,
+        search,
+        change_of(head),
+        op == CHANGE,
+        head.room,
         out,
         at,
     )
 }
 
-// Prints what op 7 answers: the file read into a link numbers, b parents and c entry numbers.
-fn read(
+// Prints what an op on bytes answers.
+fn answer_bytes(head: Head, bytes: &[u8], out: &mut [u8], at: usize) -> usize
+    ensures { λ r. ⌜ r ≤ length (now (out .exit)) ⌝ }
+{
+    if head.op == READ {
+        return reading::read(bytes, head.a, head.b, head.c, out, at);
+    }
+    blocks::payload(head.a, head.b, head.c, bytes, out, at)
+}
+
+// Prints what the head's op answers. The rows begin with what was read.
+pub fn answer(
     head: Head,
-    links: &mut [u16],
-    parents: &mut [u16],
-    row: &mut [u64],
+    links: &[u16],
+    parents: &[u16],
     bytes: &[u8],
     out: &mut [u8],
     at: usize,
 ) -> usize
     ensures { λ r. ⌜ r ≤ length (now (out .exit)) ⌝ }
 {
-    let a = head.a as usize;
-    let b = head.b as usize;
-    let c = head.c as usize;
-    if links.len() < a {
-        return output::flush(out, at);
-    }
-    if parents.len() < b {
-        return output::flush(out, at);
-    }
-    if row.len() < c {
-        return output::flush(out, at);
-    }
-    reading::read(
-        bytes,
-        &mut links[0..a],
-        &mut parents[0..b],
-        &mut row[0..c],
-        out,
-        at,
-    )
-}
-
-// Prints what the head's op answers. `links`, `parents` and `bytes` begin with what was read. The room that a case lends is the
-// beginning of `row` or `file`, and for op 7 that of `links`, `parents` and `row`; `copy` is room for a copy of `links`.
-pub fn answer(
-    head: Head,
-    links: &mut [u16],
-    parents: &mut [u16],
-    row: &mut [u64],
-    bytes: &mut [u8],
-    file: &mut [u8],
-    copy: &mut [u16],
-    out: &mut [u8],
-    at: usize,
-) -> usize
-    ensures { λ r. ⌜ r ≤ length (now (out .exit)) ⌝ }
-{
-    let op = head.op;
-    if op == CHECK {
-        return checking::check(
+    if !takes_bytes(head.op) {
+        return answer_network(
+            head,
             rows::first(links, head.rest),
             rows::first(parents, head.parents),
-            head.search,
-            out,
-            at,
-        );
-    }
-    if op == TABLE {
-        return tables::table(
-            rows::first(links, head.rest),
-            rows::first(parents, head.parents),
-            head.search,
-            row,
-            head.room,
-            out,
-            at,
-        );
-    }
-    if op == MAP {
-        return maps::map(
-            rows::first(links, head.rest),
-            rows::first(parents, head.parents),
-            head.search,
-            row,
-            head.room,
-            out,
-            at,
-        );
-    }
-    if op == CHANGE {
-        let named = rows::first(parents, head.parents);
-        return change(head, true, links, named, row, copy, out, at);
-    }
-    if op == CHANGE_UNFILLED {
-        let named = rows::first(parents, head.parents);
-        return change(head, false, links, named, row, copy, out, at);
-    }
-    if op == WRITE {
-        return files::write(
-            rows::first(links, head.rest),
-            rows::first(parents, head.parents),
-            head.search,
-            file,
-            head.room,
             out,
             at,
         );
@@ -206,11 +123,5 @@ pub fn answer(
     if bytes.len() < rest {
         return output::flush(out, at);
     }
-    if op == READ {
-        return read(head, links, parents, row, &bytes[0..rest], out, at);
-    }
-    if op == PAYLOAD {
-        return blocks::payload(head.a, head.b, head.c, &bytes[0..rest], out, at);
-    }
-    output::flush(out, at)
+    answer_bytes(head, &bytes[0..rest], out, at)
 }

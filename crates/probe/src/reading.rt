@@ -5,6 +5,7 @@ ghost use Rattle.probe.specs.Limits.{mostParents, mostLinks};
 use crate::changes;
 use crate::limits::LINKS;
 use crate::limits::PARENTS;
+use crate::limits::ROOM;
 use crate::rest;
 use crate::tables;
 use archive::Header;
@@ -113,7 +114,7 @@ fn put_read(
 }
 
 // Reads the file into the three rows, which are filled beforehand, and prints what that answers and leaves.
-pub fn read(
+fn read_rows(
     file: &[u8],
     links: &mut [u16],
     parents: &mut [u16],
@@ -128,4 +129,33 @@ pub fn read(
     rest::fill_wide(row);
     let said = archive::read(file, links, parents, row);
     put_read(said, links, parents, row, out, at)
+}
+
+// Reads the file into room for a link numbers, b parents and c entry numbers.
+pub fn read(file: &[u8], a: u16, b: u16, c: u16, out: &mut [u8], at: usize) -> usize
+    ensures { λ r. ⌜ r ≤ length (now (out .exit)) ⌝ }
+{
+    let links = a as usize;
+    let parents = b as usize;
+    let numbers = c as usize;
+    if LINKS < links {
+        return output::flush(out, at);
+    }
+    if PARENTS < parents {
+        return output::flush(out, at);
+    }
+    if ROOM < numbers {
+        return output::flush(out, at);
+    }
+    let mut first = [0u16; LINKS];
+    let mut second = [0u16; PARENTS];
+    let mut third = [0u64; ROOM];
+    read_rows(
+        file,
+        &mut first[0..links],
+        &mut second[0..parents],
+        &mut third[0..numbers],
+        out,
+        at,
+    )
 }

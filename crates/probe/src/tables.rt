@@ -3,6 +3,7 @@ ghost use Prim.Native.Nat.{_≤_};
 ghost use lib.ListN.{length};
 ghost use Rattle.probe.specs.Limits.{mostParents};
 use crate::limits::PARENTS;
+use crate::limits::ROOM;
 use crate::rest;
 use edition::Memory;
 use edition::Search;
@@ -62,8 +63,8 @@ fn put_table(said: Verdict, n: usize, row: &[u64], out: &mut [u8], at: usize) ->
     }
 }
 
-// Prints the table's answer and entries, and whether the rest of the lent room is kept.
-pub fn table(
+// Works the table out into the first numbers of a row.
+fn table_into(
     links: &[u16],
     parents: &[u16],
     search: Search,
@@ -80,4 +81,19 @@ pub fn table(
     rest::fill_wide(row);
     let said = table::table(links, parents, search, &mut row[0..room]);
     put_table(said, parents.len(), &row[0..room], out, at)
+}
+
+// Prints the table's answer and entries, and whether the rest of the lent room is kept.
+pub fn table(
+    links: &[u16],
+    parents: &[u16],
+    search: Search,
+    room: usize,
+    out: &mut [u8],
+    at: usize,
+) -> usize
+    ensures { λ r. ⌜ r ≤ length (now (out .exit)) ⌝ }
+{
+    let mut row = [0u64; ROOM];
+    table_into(links, parents, search, &mut row, room, out, at)
 }

@@ -47,6 +47,31 @@ pub fn fixed() -> Vec<Case> {
         cases.extend(wrong_alike(&block, asked));
     }
     cases.extend(check_of_zero());
+    cases.extend(known_checks());
+    cases
+}
+
+/// A word behind the front of a block of zeros, and the check by hand: the
+/// example of RFC 1071, a carry, a carry of a carry, no carry, none at all.
+pub const KNOWN: [(&[u8], u16); 5] = [
+    (&[0x00, 0x01, 0xF2, 0x03, 0xF4, 0xF5, 0xF6, 0xF7], 0x220D),
+    (&[0x80, 0x00, 0x80, 0x00], 0xFFFE),
+    (&[0xFF, 0xFF, 0xFF, 0xFF, 0x00, 0x01], 0xFFFE),
+    (&[0x12, 0x34], 0xEDCB),
+    (&[], 0xFFFF),
+];
+
+/// Blocks that are no header: 22 by the known check, 21 by its neighbours.
+fn known_checks() -> Vec<Case> {
+    let mut cases = Vec::new();
+    for (words, check) in KNOWN {
+        for stored in [check, check.wrapping_add(1), check.wrapping_sub(1)] {
+            let mut bytes = [0; BLOCK];
+            bytes[HEAD..HEAD + words.len()].copy_from_slice(words);
+            bytes[6..8].copy_from_slice(&stored.to_be_bytes());
+            cases.push(case(&bytes, [0x48, 9, 1]));
+        }
+    }
     cases
 }
 

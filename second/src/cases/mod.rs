@@ -1,7 +1,7 @@
 //! The case maker: for each op the fixed cases, then random ones, then an
 //! ending that the seed chooses.
 
-mod blocks;
+pub mod blocks;
 mod changes;
 mod endings;
 mod files;
@@ -47,6 +47,24 @@ pub fn input(ops: &[u16], seed: u64, count: usize) -> Vec<u8> {
         out.extend(random(&mut rng, ops[i % ops.len()]).encode());
     }
     out.extend(endings::ending(seed));
+    out
+}
+
+/// Cases of every op that are kept with the probe: of the fixed ones that are
+/// not long the first, and of the others one in ten.
+pub fn kept() -> Vec<u8> {
+    let mut out = Vec::new();
+    for op in CHECK..=PAYLOAD_OF {
+        let (longest, first) = match op {
+            READ | PAYLOAD_OF => (2_100, 20),
+            _ => (700, 40),
+        };
+        let all = fixed(op).into_iter().map(|case| case.encode());
+        let short: Vec<Vec<u8>> = all.filter(|bytes| bytes.len() <= longest).collect();
+        let (begin, rest) = short.split_at(first);
+        let some = rest.iter().step_by(10).take(first);
+        begin.iter().chain(some).for_each(|case| out.extend(case));
+    }
     out
 }
 
