@@ -1,7 +1,7 @@
 //! The second program's command line.
 
 use second::answers::{answers, first_difference};
-use second::cases::{input, kept, ops, series};
+use second::cases::{input, kept, largest, ops, series};
 use second::file::write;
 use second::harbour::harbour;
 use second::limits::{LONGEST_LISTED, WHOLE};
@@ -14,7 +14,7 @@ use std::path::Path;
 use std::process::ExitCode;
 
 const USAGE: &str =
-    "usage: second list | harbour | kept | expect | compare PRINTED | cases OPS SEED COUNT | files DIR SEED COUNT
+    "usage: second list | harbour | kept | largest [OP] | expect | compare PRINTED | cases OPS SEED COUNT | files DIR SEED COUNT
        second series SEED COUNT | series-expect";
 
 fn main() -> ExitCode {
@@ -40,6 +40,8 @@ fn run(words: &[&str]) -> Option<Result<()>> {
         ["expect"] => Some(answer_input(answers)),
         ["compare", printed] => Some(compare(Path::new(printed))),
         ["series-expect"] => Some(answer_input(lines)),
+        ["largest"] => Some(print(&largest(None))),
+        ["largest", op] => Some(print(&largest(Some(op.parse().ok()?)))),
         ["kept"] => Some(print(&kept())),
         ["harbour"] => Some(print(&harbour_file())),
         ["cases", list, seed, count] => {

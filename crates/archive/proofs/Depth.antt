@@ -1,5 +1,5 @@
--- The depth of a file that is taken: what bytes 14 and 15 say, and the whole search only for 65,535. Assumes nothing.
-use mathlib.Core.Path.{_≡_, refl}
+-- The depth of a file: what bytes 14 and 15 say, what was written, and the whole search only for 65,535. Assumes nothing.
+use mathlib.Core.Path.{_≡_, refl, sym, ap, _∙_}
 use mathlib.Core.Bool.{Bool, true, false}
 use mathlib.Core.List.{List}
 use Prim.Native.Nat.{ℕ, _≤_}
@@ -10,7 +10,11 @@ use Rattle.edition.specs.declared.Why.the-variants.{BadDepth}
 use Rattle.edition.specs.Limits.{wholeSearch}
 use Rattle.edition.specs.Stored.{editionLimits}
 use Rattle.rows.proofs.Refusing.{head-taken, rest-taken, if-taken}
-use Rattle.network.specs.Network.{netOf}
+use Rattle.edition.specs.declared.Search.{Search}
+use Rattle.network.specs.Network.{Net, netOf}
+use Rattle.sound.specs.Sound.{netVerdict}
+use Rattle.archive.specs.Writer.{fileOf}
+use Rattle.archive.proofs.Returning.{depth-written}
 use Rattle.network.specs.Records.{badDepth, sizeVerdict}
 use Rattle.block.specs.Bytes.{numberIn}
 use Rattle.archive.specs.Reader.{searchRead, netRead, Rows, headVerdict, readVerdict}
@@ -43,3 +47,16 @@ module _ (file : List ℕ) (rows : Rows) (h : readVerdict file rows ≡ Taken) w
       depth-cases (numberIn file 14 2)
       (if-taken _ BadDepth 0 (head-taken _ _ (rest-taken _ _ (rest-taken _ _ (rest-taken _ _ sizes)))))
       other
+
+-- No value of the depth field means blank: the depth read is the depth written, and the whole search only for 65,535.
+pub no-blank-depth :
+    (g : Net)
+    → netVerdict g ≡ Taken
+    → (searchRead (fileOf g) .depth ≡ g .search .depth)
+    × (numberIn (fileOf g) 14 2 ≡ g .search .depth)
+    × (g .search .depth ≡ wholeSearch → numberIn (fileOf g) 14 2 ≡ 65535)
+    × (numberIn (fileOf g) 14 2 ≡ 65535 → g .search .depth ≡ wholeSearch)
+unfolding searchRead
+no-blank-depth g ok =
+    let same : numberIn (fileOf g) 14 2 ≡ g .search .depth = ap (λ (s : Search). s .depth) (depth-written g ok) in
+    (same, same, λ e. same ∙ e, λ e. sym same ∙ e)

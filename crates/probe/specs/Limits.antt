@@ -1,21 +1,9 @@
--- The probe's limits and ops. Assumes nothing.
+-- The probe's ops, and which heads are over a limit. Assumes nothing.
 use mathlib.Core.Bool.{Bool, cond, not, _&&_, _||_}
 use Prim.Native.Nat.{ℕ}
 use lib.Dec.{eqb, ltb, leb}
+use Rattle.answers.specs.Limits.{mostParents, mostLinks, mostBytes, mostRoom}
 use Rattle.probe.specs.declared.input.Head.{Head}
-
--- The most parents, link numbers and bytes of a case, and the most room that it lends.
-abbrev pub mostParents : ℕ
-mostParents = 600
-
-abbrev pub mostLinks : ℕ
-mostLinks = 8400
-
-abbrev pub mostBytes : ℕ
-mostBytes = 33000
-
-abbrev pub mostRoom : ℕ
-mostRoom = 40000
 
 -- The ops of the probe's table are 1 to this one.
 abbrev pub lastOp : ℕ
@@ -39,10 +27,6 @@ takesBytes op = eqb op readOp || eqb op payloadOp
 -- The most that may follow the parents.
 unfoldable pub mostRest : ℕ → ℕ
 mostRest op = cond (takesBytes op) mostBytes mostLinks
-
--- The kind that op 8 asks for: 0, which is none of the three, where the number does not fit a byte.
-unfoldable pub kindAsked : ℕ → ℕ
-kindAsked a = cond (ltb 255 a) 0 a
 
 -- Is one of the three rows that op 7 lends over its limit?
 unfoldable pub overRows : Head → Bool

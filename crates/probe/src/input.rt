@@ -5,12 +5,12 @@ ghost use lib.ListN.{length, drop};
 ghost use Rattle.rows.specs.Count.{rowWith};
 ghost use Rattle.probe.specs.Input.{wordIn, longIn, headIn, HeadRead, rowRead};
 ghost use Rattle.probe.specs.Limits.{mostRest, overRows, isOver};
-use crate::limits::BYTES;
 use crate::limits::HEAD;
-use crate::limits::LINKS;
-use crate::limits::PARENTS;
-use crate::limits::ROOM;
 use crate::ops;
+use answers::limits::BYTES;
+use answers::limits::LINKS;
+use answers::limits::PARENTS;
+use answers::limits::ROOM;
 use edition::Search;
 
 // The head of a case: its op, how many parents and how much else follow, how much room is lent, and the numbers that the

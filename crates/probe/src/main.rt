@@ -1,24 +1,16 @@
 // The library from the outside: reads cases from standard input, and prints what the public functions answer and what they
 // leave in the lent rows.
-mod blocks;
-mod changes;
-mod checking;
-mod files;
 mod input;
 mod limits;
-mod maps;
 mod ops;
-mod reading;
-mod rest;
-mod tables;
 
+use answers::limits::BYTES;
+use answers::limits::LINKS;
+use answers::limits::PARENTS;
 use input::Head;
 use input::Heading;
-use limits::BYTES;
 use limits::CASES;
-use limits::LINKS;
 use limits::OUT;
-use limits::PARENTS;
 
 // Whether another case follows, and how much waits to be printed.
 enum Next {

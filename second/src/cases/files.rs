@@ -12,7 +12,7 @@ use crate::random;
 use crate::rng::Rng;
 use crate::shapes::Draft;
 
-fn case(lent: &Lent) -> Case {
+pub fn case(lent: &Lent) -> Case {
     Case::over_bytes(READ, &lent.bytes, lent.rooms.map(|room| room as u16))
 }
 

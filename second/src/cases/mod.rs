@@ -8,6 +8,9 @@ mod files;
 mod networks;
 mod series;
 
+use crate::file_faults::sound_file;
+use crate::limits::{PROBE_ROOM, WHOLE};
+use crate::named::large;
 use crate::probe::*;
 use crate::rng::Rng;
 
@@ -66,6 +69,18 @@ pub fn kept() -> Vec<u8> {
         begin.iter().chain(some).for_each(|case| out.extend(case));
     }
     out
+}
+
+/// The most nodes and links at the whole search: as a file, and as the case of
+/// an op over a network or over a file.
+pub fn largest(op: Option<u16>) -> Vec<u8> {
+    let most = large().swap_remove(3).rows;
+    let file = sound_file(&most, WHOLE);
+    match op {
+        None => file.bytes,
+        Some(READ) => files::case(&file).encode(),
+        Some(op) => Case::over(op, &most, WHOLE, PROBE_ROOM).encode(),
+    }
 }
 
 /// The ops that a list such as `1,3-5` names, or none where it is no list.
