@@ -9,3 +9,4 @@ pub mod Filling
 pub mod Holding
 pub mod Listed
 pub mod Distinct
+pub mod Only
