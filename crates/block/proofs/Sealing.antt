@@ -43,11 +43,6 @@ module _ (before : List ℕ) (from count : ℕ) where
   pub clear-start : from + count ≤ length before → Clearing before from count 0 before
   clear-start l = record { low = omega arith; room = l; is = paste-zero before from (replicate count 0) }
 
-  pub clear-length : from + count ≤ length before → length (cleared before from count) ≡ length before
-  unfolding cleared
-  clear-length l =
-      length-paste before from (replicate count 0) count l (omega (arith, length-replicate {A = ℕ} count 0))
-
   module _ (j : ℕ) (now : List ℕ) (s : Clearing before from count j now) where
     pub clearing-length : length now ≡ length before
     clearing-length =

@@ -3,7 +3,7 @@ ghost use mathlib.Core.Path.{_≡_};
 ghost use mathlib.Core.Bool.{false};
 ghost use Prim.Native.Nat.{_+_, _*_, _<_, _≤_};
 ghost use lib.ListN.{length};
-ghost use Rattle.edition.specs.Stored.{blockBytes, frontBytes, payloadBytes, entryBytes};
+ghost use Rattle.edition.specs.Stored.{blockBytes, frontBytes, entryBytes};
 ghost use Rattle.rows.specs.Count.{someTo};
 ghost use Rattle.block.specs.Bytes.{numberIn, onesAdd, dirty};
 ghost use Rattle.block.specs.Block.{capacity, recordBytes, checkOf, dirtyEntry, badFiller, unheard, badBlock, blockVerdict, payload as payloadOf, payloadPlace, sealed};

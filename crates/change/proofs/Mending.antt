@@ -5,17 +5,18 @@ use mathlib.Core.Bool.{Bool, true, false, cond, not, _&&_}
 use mathlib.Core.List.{List, _++_}
 use Prim.Native.Nat.{ℕ, _*_, _<_, _≤_}
 use native.Mathlib.Omega.{arith}
-use lib.Dec.{eqb, ltb}
-use lib.ListN.{length, take, drop, replicate, length-replicate, length-drop}
+use lib.Dec.{eqb}
+use lib.ListN.{length, drop, length-drop}
 use lib.Seq.{drop-at, length-take-le}
-use borrow.Author.Tests.{eqb-true, ltb-true, lt-ltb}
+use borrow.Author.Tests.{eqb-true}
 use Rattle.edition.specs.declared.Change.{Change}
 use Rattle.edition.specs.declared.Search.{Search}
 use Rattle.edition.specs.Limits.{entryWidth}
 use Rattle.edition.specs.Entries.{entryRow}
 use Rattle.rows.specs.Count.{rowsTo}
 use Rattle.rows.specs.Lists.{differ}
-use Rattle.rows.proofs.Records.{rows-cong, rows-length, rows-at}
+use Rattle.rows.proofs.Tests.{and-none}
+use Rattle.rows.proofs.Records.{rows-cong, rows-length, rows-at-in}
 use Rattle.network.specs.declared.Link.{Link}
 use Rattle.network.specs.Network.{Net, linksIn, linkIn, netOf, inService}
 use Rattle.tree.specs.Tree.{Tree, treeOf, under, onPath}
@@ -28,34 +29,15 @@ use Rattle.change.proofs.Alike.{Alike, same, neither, SameFor, entry-sa
 use Rattle.change.proofs.Setting.{count-same, link-other, link-set}
 use Rattle.change.proofs.Staying.{Allowed, kept-tree}
 
-and-false : (a : Bool) → (a && false) ≡ false
-and-false true = refl
-and-false false = refl
-
 -- a link that has both ends in T(x), or neither, does not cross x, whatever its length and mark
 no-cross : (t : Tree) (x k : ℕ) (l : Link) → differ (under t x (l .first)) (under t x (l .second)) ≡ false → crosses t x k l ≡ false
 unfolding crosses
-no-cross t x k l h = rw h (and-false (inService l && not (eqb k (t .link x))))
+no-cross t x k l h = rw h (and-none (inService l && not (eqb k (t .link x))))
 
 -- the record of x in a row of records whose width is known for the first n alone
 pub record-at : (n : ℕ) (f : ℕ → List ℕ) (more : List ℕ) → ((x : ℕ) → x < n → length (f x) ≡ entryWidth) → (x : ℕ) → x < n → standing (rowsTo f n ++ more) x ≡ f x
 unfolding standing
-record-at n f more sized x l =
-    ap (λ (r : List ℕ). take entryWidth (drop (x * entryWidth) (r ++ more))) (sym (rows-cong wide f n wide-in))
-    ∙ (rows-at wide entryWidth wide-size n more x l ∙ wide-in x l)
-  where
-    wide : ℕ → List ℕ
-    wide y = cond (ltb y n) (f y) (replicate entryWidth 0)
-
-    wide-in : (y : ℕ) → y < n → wide y ≡ f y
-    wide-in y m = rw (lt-ltb y n m)
-
-    wide-size : (y : ℕ) → length (wide y) ≡ entryWidth
-    wide-size y = go (ltb y n) refl
-      where
-        go : (b : Bool) → ltb y n ≡ b → length (wide y) ≡ entryWidth
-        go true q = rw q (sized y (ltb-true y n q))
-        go false q = rw q (length-replicate {A = ℕ} entryWidth 0)
+record-at n f more sized x l = rows-at-in f entryWidth n sized more x l
 
 row-size : (g : Net) (x : ℕ) → length (entryRow (entry g x)) ≡ entryWidth
 unfolding entryRow

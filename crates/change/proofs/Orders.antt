@@ -2,10 +2,10 @@
 -- the lent table held. Assumes nothing.
 use mathlib.Core.Path.{_≡_, refl, sym, subst, ap, ap₂, _∙_}
 use mathlib.Core.Bool.{Bool, true, false, cond, _||_}
-use mathlib.Core.List.{List, [], _∷_, _++_}
-use Prim.Native.Nat.{ℕ, zero, suc, _+_, _*_, _<_, _≤_}
+use mathlib.Core.List.{List, _++_}
+use Prim.Native.Nat.{ℕ, _+_, _*_, _<_, _≤_}
 use native.Mathlib.Omega.{arith}
-use lib.ListN.{length, drop, set, length-append}
+use lib.ListN.{length, drop, set}
 use lib.Seq.{drop-at}
 use borrow.Author.Tests.{ne-eqb}
 use Rattle.edition.specs.declared.Change.{Change}
@@ -14,7 +14,9 @@ use Rattle.edition.specs.declared.Verdict.the-variants.{Taken}
 use Rattle.edition.specs.Limits.{linkWidth, entryWidth}
 use Rattle.edition.specs.Entries.{entryRow}
 use Rattle.rows.specs.Count.{rowsTo}
-use Rattle.rows.proofs.Records.{rows-cong}
+use Rattle.rows.proofs.Tests.{or-swap}
+use Rattle.rows.proofs.Listed.{set-swap}
+use Rattle.rows.proofs.Records.{rows-cong, rows-length-in}
 use Rattle.network.specs.declared.Link.{Link}
 use Rattle.network.specs.Network.{linkIn, netOf}
 use Rattle.tree.specs.Tree.{Tree, treeOf, onPath}
@@ -26,14 +28,6 @@ use Rattle.change.specs.Change.{changeVerdict, setLink, mended, Lent, ch
 use Rattle.change.proofs.Setting.{link-other}
 use Rattle.change.proofs.Staying.{Allowed, allowed, kept-tree}
 use Rattle.change.proofs.Mending.{onWay, madeAt, made-size, mended-rows, mended-at, entry-kept}
-
--- numbers set at different places, in either order
-set-swap : (l : List ℕ) (i j a b : ℕ) → (i ≡ j → ⊥) → set (set l i a) j b ≡ set (set l j b) i a
-set-swap [] i j a b n = refl
-set-swap (x ∷ xs) zero zero a b n = absurd (n refl)
-set-swap (x ∷ xs) zero (suc j) a b n = refl
-set-swap (x ∷ xs) (suc i) zero a b n = refl
-set-swap (x ∷ xs) (suc i) (suc j) a b n = ap (λ (r : List ℕ). x ∷ r) (set-swap xs i j a b (λ e. n (ap suc e)))
 
 -- the rows of links are the same
 links-agree : (links : List ℕ) (c d : Change) → (c .link ≡ d .link → ⊥) → setLink (setLink links c) d ≡ setLink (setLink links d) c
@@ -47,18 +41,6 @@ links-agree links c d n =
     ∙ (ap (λ (r : List ℕ). set (set r two (c .mark)) four (d .mark)) (set-swap links one three (c .length) (d .length) (λ e. n (omega (arith, e))))
     ∙ (set-swap (set (set links three (d .length)) one (c .length)) two four (c .mark) (d .mark) (λ e. n (omega (arith, e)))
     ∙ ap (λ (r : List ℕ). set r two (c .mark)) (set-swap (set links three (d .length)) one four (c .length) (d .mark) (λ e. n (omega (arith, e))))))
-
-rows-size : (n : ℕ) (f : ℕ → List ℕ) → ((x : ℕ) → x < n → length (f x) ≡ entryWidth) → length (rowsTo f n) ≡ n * entryWidth
-unfolding rowsTo
-rows-size zero f h = refl
-rows-size (suc n) f h =
-    omega (arith, length-append (rowsTo f n) (f n), rows-size n f (λ x l. h x (omega arith)), h n (omega arith))
-
-or-swap : (a b : Bool) → (a || b) ≡ (b || a)
-or-swap true true = refl
-or-swap true false = refl
-or-swap false true = refl
-or-swap false false = refl
 
 module _ (links parents : List ℕ) (search : Search) (entries : List ℕ) (room : length parents * entryWidth ≤ length entries) where
   -- does the tree link of x lie on the path between the ends of the link that is changed?
@@ -99,7 +81,7 @@ module _ (links parents : List ℕ) (search : Search) (entries : List ℕ) (room
     past =
         ap (drop (length parents * entryWidth)) (mended-rows links parents search c a entries)
         ∙ drop-at (rowsTo (madeAt links parents search c a entries) (length parents)) (drop (length parents * entryWidth) entries) (length parents * entryWidth)
-        (rows-size (length parents) (madeAt links parents search c a entries) (made-size links parents search c a entries room))
+        (rows-length-in (madeAt links parents search c a entries) entryWidth (length parents) (made-size links parents search c a entries room))
 
     pub both-rows : mended (netOf (setLink links c) parents search) (netOf (setLink (setLink links c) d) parents search) (d .link) middle ≡ rowsTo (bothAt c d (setLink (setLink links c) d)) (length parents) ++ drop (length parents * entryWidth) entries
     both-rows =

@@ -2,7 +2,6 @@
 ghost use mathlib.Core.Path.{_≡_};
 ghost use Prim.Native.Nat.{_<_, _≤_};
 ghost use lib.ListN.{length};
-ghost use Rattle.edition.specs.Limits.{nodeLimit};
 ghost use Rattle.edition.specs.declared.Verdict.the-variants.{Taken};
 ghost use Rattle.network.specs.Network.{netOf, linksIn};
 ghost use Rattle.tree.specs.Tree.{treeOf, under};

@@ -8,6 +8,7 @@ use lib.ListN.{length, set, length-append}
 use borrow.Author.Tests.{le-leb, lt-leb, leb-true, leb-false}
 use mathlib.Core.Bool.{Bool, true, false}
 use lib.Seq.{sets, length-sets}
+use Rattle.rows.proofs.Listed.{set-swap}
 use Rattle.block.specs.Bytes.{bytesOf}
 use Rattle.edition.specs.declared.Entry.{Entry}
 use Rattle.edition.specs.declared.Search.{Search}
@@ -19,13 +20,6 @@ pub bytes-length : (k v : ℕ) → length (bytesOf k v) ≡ k
 unfolding bytesOf
 bytes-length zero v = refl
 bytes-length (suc k) v = omega (arith, length-append (bytesOf k (v / 256)) (v % 256 ∷ []), bytes-length k (v / 256))
-
-set-swap : (l : List ℕ) (i j a b : ℕ) → (i ≡ j → ⊥) → set (set l i a) j b ≡ set (set l j b) i a
-set-swap [] i j a b n = refl
-set-swap (x ∷ xs) zero zero a b n = absurd (n refl)
-set-swap (x ∷ xs) zero (suc j) a b n = refl
-set-swap (x ∷ xs) (suc i) zero a b n = refl
-set-swap (x ∷ xs) (suc i) (suc j) a b n = ap (λ (r : List ℕ). x ∷ r) (set-swap xs i j a b (λ e. n (ap suc e)))
 
 -- a number set before a place, and numbers from there on
 set-before : (vs l : List ℕ) (i j a : ℕ) → i < j → set (sets l j vs) i a ≡ sets (set l i a) j vs

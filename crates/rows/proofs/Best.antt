@@ -6,7 +6,7 @@ use Prim.Native.Nat.{ℕ, zero, suc, _<_}
 use native.Mathlib.Nat.{not-suc-le-zero}
 use native.Mathlib.Omega.{arith}
 use lib.Dec.{ltb}
-use borrow.Author.Tests.{ltb-true, ltb-false, le-ltb}
+use borrow.Author.Tests.{ltb-true, ltb-false}
 use Rattle.edition.specs.declared.Found.{Found}
 use Rattle.edition.specs.declared.Found.the-variants.{Nothing, At}
 use Rattle.rows.specs.Count.{someTo}
@@ -135,14 +135,6 @@ module _ (may may′ : ℕ → Bool) (before before′ : ℕ → ℕ → Bool) w
   best-cong (suc k) m o =
       let ih = best-cong k (λ j l. m j (omega arith)) (λ i j l n. o i j (omega arith) n) in
       rw (← ih, ← m k (omega arith), ← beats-cong k (may k) refl (stands may before k) (λ b l p q. o k b (omega arith) l q p))
-
--- a cost orders
-pub cost-orders : (c : ℕ → ℕ) → Orders (λ a b. ltb (c a) (c b))
-cost-orders c =
-    record {
-      asym = λ a b h. le-ltb (c b) (c a) (omega (arith, ltb-true (c a) (c b) h));
-      through = λ a b d g h. le-ltb (c d) (c a) (omega (arith, ltb-false (c b) (c a) g, ltb-false (c d) (c b) h));
-    }
 
 -- the test by which nothing comes before anything: what `firstTo` goes by
 never : Orders (λ a b. false)

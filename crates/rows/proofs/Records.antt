@@ -17,18 +17,30 @@ rows-cong f g zero h = refl
 rows-cong f g (suc k) h =
     ap₂ (λ (a b : List ℕ). a ++ b) (rows-cong f g k (λ x l. h x (omega arith))) (h k (omega arith))
 
-module _ (f : ℕ → List ℕ) (size : ℕ) (sized : (x : ℕ) → length (f x) ≡ size) where
-  pub rows-length : (k : ℕ) → length (rowsTo f k) ≡ k * size
+-- records whose size is known for the first k alone
+module _ (f : ℕ → List ℕ) (size : ℕ) where
+  pub rows-length-in : (k : ℕ) → ((x : ℕ) → x < k → length (f x) ≡ size) → length (rowsTo f k) ≡ k * size
   unfolding rowsTo
-  rows-length zero = sym (zero-mul size)
-  rows-length (suc k) = omega (arith, length-append (rowsTo f k) (f k), rows-length k, sized k, suc-mul k size)
+  rows-length-in zero sized = sym (zero-mul size)
+  rows-length-in (suc k) sized =
+      omega (arith, length-append (rowsTo f k) (f k), rows-length-in k (λ x l. sized x (omega arith)), sized k (omega arith), suc-mul k size)
 
   -- the record at place x, whatever follows
-  pub rows-at : (k : ℕ) (r : List ℕ) (x : ℕ) → x < k → take size (drop (x * size) (rowsTo f k ++ r)) ≡ f x
+  pub rows-at-in : (k : ℕ) → ((x : ℕ) → x < k → length (f x) ≡ size) → (r : List ℕ) (x : ℕ) → x < k → take size (drop (x * size) (rowsTo f k ++ r)) ≡ f x
   unfolding rowsTo
-  rows-at zero r x l = absurd (not-suc-le-zero l)
-  rows-at (suc k) r x l = rw (append-assoc (rowsTo f k) (f k) r) (go (rows-at k (f k ++ r) x) (eqb x k) refl)
+  rows-at-in zero sized r x l = absurd (not-suc-le-zero l)
+  rows-at-in (suc k) sized r x l =
+      rw (append-assoc (rowsTo f k) (f k) r) (go (rows-at-in k (λ x l. sized x (omega arith)) (f k ++ r) x) (eqb x k) refl)
     where
       go : (x < k → take size (drop (x * size) (rowsTo f k ++ (f k ++ r))) ≡ f x) → (b : Bool) → eqb x k ≡ b → take size (drop (x * size) (rowsTo f k ++ (f k ++ r))) ≡ f x
-      go ih true e = rw (eqb-true x k e, drop-at (rowsTo f k) (f k ++ r) (k * size) (rows-length k)) (take-at (f k) r size (sized k))
+      go ih true e =
+          rw (eqb-true x k e, drop-at (rowsTo f k) (f k ++ r) (k * size) (rows-length-in k (λ x l. sized x (omega arith))))
+          (take-at (f k) r size (sized k (omega arith)))
       go ih false e = ih (omega (arith, eqb-false x k e))
+
+  -- the same, where it is known of all
+  pub rows-length : ((x : ℕ) → length (f x) ≡ size) → (k : ℕ) → length (rowsTo f k) ≡ k * size
+  rows-length sized k = rows-length-in k (λ x l. sized x)
+
+  pub rows-at : ((x : ℕ) → length (f x) ≡ size) → (k : ℕ) (r : List ℕ) (x : ℕ) → x < k → take size (drop (x * size) (rowsTo f k ++ r)) ≡ f x
+  rows-at sized k = rows-at-in k (λ x l. sized x)

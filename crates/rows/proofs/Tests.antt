@@ -36,6 +36,16 @@ pub or-none : (a : Bool) → (a || false) ≡ a
 or-none true = refl
 or-none false = refl
 
+pub and-none : (a : Bool) → (a && false) ≡ false
+and-none true = refl
+and-none false = refl
+
+pub or-swap : (a b : Bool) → (a || b) ≡ (b || a)
+or-swap true true = refl
+or-swap true false = refl
+or-swap false true = refl
+or-swap false false = refl
+
 pub or-assoc : (a b c : Bool) → (a || b || c) ≡ (a || (b || c))
 or-assoc true b c = refl
 or-assoc false b c = refl
@@ -56,12 +66,6 @@ differ-cases true true h f g = clash h refl
 differ-cases true false h f g = f refl refl
 differ-cases false true h f g = g refl refl
 differ-cases false false h f g = clash h refl
-
-pub differ-sym : (a b : Bool) → differ a b ≡ differ b a
-differ-sym true true = refl
-differ-sym true false = refl
-differ-sym false true = refl
-differ-sym false false = refl
 
 -- What holds below k and at k holds below suc k.
 pub lastly : (P : ℕ → Type 0) (k : ℕ) → ((i : ℕ) → i < k → P i) → P k → (j : ℕ) → j < suc k → P j

@@ -5,7 +5,7 @@ use mathlib.Core.Bool.{Bool, true, false}
 use Prim.Native.Nat.{ℕ, _<_, _≤_}
 use native.Mathlib.Omega.{arith}
 use lib.Dec.{eqb, ltb}
-use borrow.Author.Tests.{eqb-true, eqb-false, ltb-true, ltb-false, le-ltb, lt-ltb}
+use borrow.Author.Tests.{eqb-true, eqb-false, ltb-true, ltb-false}
 use Rattle.edition.specs.declared.Found.{Found}
 use Rattle.edition.specs.declared.Found.the-variants.{Nothing, At}
 use Rattle.edition.specs.declared.Measure.{Measure}
@@ -41,15 +41,6 @@ compare-offers a b = go (ltb (a .cost) (b .cost)) refl (eqb (a .cost) (b .cost))
 
 better-is : (a b : Offer) → (a .cost < b .cost) → better a b ≡ true
 better-is a b l = go (compare-offers a b)
-  where
-    go : {r : Bool} → Compared a b r → r ≡ true
-    go (less h) = refl
-    go (lower h k) = refl
-    go (not-lower h k) = absurd (omega arith)
-    go (more h) = absurd (omega arith)
-
-better-lower : (a b : Offer) → a .cost ≡ b .cost → a .link < b .link → better a b ≡ true
-better-lower a b q l = go (compare-offers a b)
   where
     go : {r : Bool} → Compared a b r → r ≡ true
     go (less h) = refl
@@ -95,16 +86,6 @@ better-through a b c e f =
     let z = not-better-says c b f in
     not-better c a (omega (arith, y .0, z .0))
     (λ q. omega (arith, y .1 (omega (arith, y .0, z .0)), z .1 (omega (arith, y .0, z .0))))
-
--- among links in number order, a later one comes before an earlier one exactly where it costs less
-pub later-before : (a b : Offer) → b .link < a .link → better a b ≡ ltb (a .cost) (b .cost)
-later-before a b l = go (compare-offers a b)
-  where
-    go : {r : Bool} → Compared a b r → r ≡ ltb (a .cost) (b .cost)
-    go (less h) = sym (lt-ltb (a .cost) (b .cost) h)
-    go (lower h k) = absurd (omega arith)
-    go (not-lower h k) = sym (le-ltb (a .cost) (b .cost) (omega arith))
-    go (more h) = sym (le-ltb (a .cost) (b .cost) (omega arith))
 
 module _ (s : Measure) (g : Net) (x : ℕ) where
   orders : Orders (before s g x)

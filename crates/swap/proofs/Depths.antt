@@ -33,11 +33,6 @@ atDepth g depth =
       search = record { root = g .search .root; depth = depth };
     }
 
--- the tree does not know the depth
-pub depth-tree : (g : Net) (depth : ℕ) → treeOf (atDepth g depth) ≡ treeOf g
-unfolding treeOf atDepth
-depth-tree g depth = refl
-
 module _ (g : Net) (s : Sound g) (x : ℕ) (far : eqb x (g .search .root) ≡ false) where
   -- every lower end is within 510 hops
   near : (e : ℕ) → e < g .links → crosses (treeOf g) x e (g .link e) ≡ true → hops (treeOf g) x (lower (treeOf g) x (g .link e)) ≤ depthLimit

@@ -1,6 +1,6 @@
 -- The sum by what is kept at each node: sum + turn(z) = base(x) + count(x) * K, with K = d(z) + w + d(z'). Assumes nothing.
 use mathlib.Core.Path.{_≡_, refl, sym, subst, ap, _∙_}
-use mathlib.Core.Bool.{Bool, true, false, not, _||_}
+use mathlib.Core.Bool.{Bool, true, false, _||_}
 use Prim.Native.Nat.{ℕ, _+_, _*_, _-_, _<_, _≤_}
 use native.Mathlib.Nat.{one-mul, zero-mul, add-mul}
 use native.Mathlib.Omega.{arith}

@@ -10,7 +10,7 @@ use borrow.Author.Tests.{eqb-true, eqb-false, ne-eqb}
 use Rattle.edition.specs.declared.Search.{Search}
 use Rattle.edition.specs.declared.Verdict.the-variants.{Taken}
 use Rattle.rows.specs.Lists.{has, upTo, differ}
-use Rattle.rows.proofs.Tests.{clash, either}
+use Rattle.rows.proofs.Tests.{clash, either, and-none, or-swap}
 use Rattle.network.specs.Network.{Net, netOf, inService, touches}
 use Rattle.tree.specs.Tree.{Tree, treeOf, route, under, meet, onPath}
 use Rattle.tree.proofs.Ways.{Home}
@@ -59,21 +59,11 @@ module _ (g : Net) (s : Sound g) (e k : ℕ) (p : Spare g e k) where
   unfolding crosses treeOf
   spare-crosses x l r = rw (p .serves, not-own x l r)
 
-pub and-none : (a : Bool) → (a && false) ≡ false
-and-none true = refl
-and-none false = refl
-
 joined : {A : Type 0} (c x y : Bool) (u v : A) → cond c u (cond (x || y) u v) ≡ cond (x || c || y) u v
 joined true true y u v = refl
 joined true false y u v = refl
 joined false true y u v = refl
 joined false false y u v = refl
-
-or-sym : (a b : Bool) → (a || b) ≡ (b || a)
-or-sym true true = refl
-or-sym true false = refl
-or-sym false true = refl
-or-sym false false = refl
 
 -- a link's two ends, told in either order
 pub record Ends (g : Net) (e y z : ℕ) : Type 0 where
@@ -106,7 +96,7 @@ between-turn g n marks e y z row₀ a b row i =
       rows =
           λ before h.
           entries-same _ _ _ before row
-          (λ v l. ap (λ (c : Bool). cond c (want g marks before (suc e) v) (want g marks before e v)) (or-sym (has v (upTo (a .climb .node) (route (treeOf g) y))) (has v (upTo (b .climb .node) (route (treeOf g) z)))))
+          (λ v l. ap (λ (c : Bool). cond c (want g marks before (suc e) v) (want g marks before e v)) (or-swap (has v (upTo (a .climb .node) (route (treeOf g) y))) (has v (upTo (b .climb .node) (route (treeOf g) z)))))
           (i .rows before h);
     }
 

@@ -28,10 +28,6 @@ use Rattle.table.specs.Work.{Moved, FoldedAt, Foldable, Added}
 pub moved-none : (f : ℕ → ℕ) (done : ℕ → Bool) (row : List ℕ) → ((x : ℕ) → done x ≡ false) → Moved done f row row
 moved-none f done row h = record { size = refl; each = λ x. rw (h x) }
 
--- the same nodes, told otherwise
-pub moved-same : (f : ℕ → ℕ) (done done′ : ℕ → Bool) (before after : List ℕ) → ((x : ℕ) → done x ≡ done′ x) → Moved done f before after → Moved done′ f before after
-moved-same f done done′ before after h m = record { size = m .size; each = λ x. rw (← h x) (m .each x) }
-
 -- one node more
 pub moved-more : (f : ℕ → ℕ) (done done′ : ℕ → Bool) (before after : List ℕ) (c v : ℕ) → Moved done f before after → c < length after → done c ≡ false → ((x : ℕ) → done′ x ≡ (done x || eqb c x)) → v ≡ f (getD after c 0) → Moved done′ f before (set after c v)
 moved-more f done done′ before after c v m l out h q =

@@ -27,7 +27,7 @@ use Rattle.swap.proofs.Folding.{sum-is, through-ends}
 use Rattle.swap.proofs.Reaching.{max-is, inside-bound}
 use Rattle.table.specs.declared.Side.{Side}
 use Rattle.table.specs.Work.{Carries, Crossing, Priced, Ready}
-use Rattle.table.proofs.Counts.{small, dist-few}
+use Rattle.table.proofs.Counts.{dist-few}
 use Rattle.table.proofs.Stems.{counts-small, base-small}
 use Rattle.table.proofs.BothSides.{all-in, closed-in}
 

@@ -11,7 +11,7 @@ use Rattle.edition.specs.declared.Search.{Search}
 use Rattle.edition.specs.declared.Verdict.the-variants.{Taken}
 use Rattle.edition.specs.Limits.{longest, noLink}
 use Rattle.rows.specs.Lists.{has, differ}
-use Rattle.rows.proofs.Tests.{not-so}
+use Rattle.rows.proofs.Tests.{not-so, and-none}
 use Rattle.network.specs.declared.Link.{Link}
 use Rattle.network.specs.Network.{Net, netOf, linkIn, linksIn, inService, otherEnd}
 use Rattle.network.specs.Records.{badParent}
@@ -28,7 +28,7 @@ use Rattle.table.specs.Work.{Holds, Carries, Spare, Starting, Linked}
 use Rattle.table.specs.declared.Side.{Side}
 use Rattle.table.proofs.Counts.{dist-few}
 use Rattle.table.proofs.Offering.{entries-same}
-use Rattle.table.proofs.Linking.{want-kept, and-none}
+use Rattle.table.proofs.Linking.{want-kept}
 
 differ-same : (a : Bool) → differ a a ≡ false
 differ-same true = refl

@@ -13,7 +13,7 @@ use Rattle.edition.specs.declared.Entry.{Entry}
 use Rattle.edition.specs.Limits.{entryWidth}
 use Rattle.edition.specs.Entries.{entryRow}
 use Rattle.rows.specs.Count.{rowsTo}
-use Rattle.rows.proofs.Records.{rows-length, rows-at}
+use Rattle.rows.proofs.Records.{rows-length-in, rows-at-in}
 use Rattle.table.specs.Work.{entryAt, Entries}
 
 -- what a run of stores leaves: the stored numbers, and the old ones elsewhere
@@ -90,20 +90,20 @@ entries-put n f before row x e h l room =
     at y i m k false q = other y i k (ltb y x) refl (eqb-false x y q) ∙ h .each y i m k
 
 -- the row as a list: the records one after the other, and what lay past them
-pub entries-list : (n : ℕ) (f : ℕ → List ℕ) (before row : List ℕ) → ((x : ℕ) → length (f x) ≡ entryWidth) → n * entryWidth ≤ length before → Entries n f before row → row ≡ rowsTo f n ++ drop (n * entryWidth) before
+pub entries-list : (n : ℕ) (f : ℕ → List ℕ) (before row : List ℕ) → ((x : ℕ) → x < n → length (f x) ≡ entryWidth) → n * entryWidth ≤ length before → Entries n f before row → row ≡ rowsTo f n ++ drop (n * entryWidth) before
 entries-list n f before row sized room h =
     ext-getD 0 row (rowsTo f n ++ drop (n * entryWidth) before)
     (omega (arith, h .size, length-append (rowsTo f n) (drop (n * entryWidth) before), front, length-drop (n * entryWidth) before))
     (λ j l. at j (ltb j (n * entryWidth)) refl)
   where
     front : length (rowsTo f n) ≡ n * entryWidth
-    front = rows-length f entryWidth sized n
+    front = rows-length-in f entryWidth n sized
 
     inner : (x i : ℕ) → x < n → i < entryWidth → getD (rowsTo f n ++ drop (n * entryWidth) before) (x * entryWidth + i) 0 ≡ getD (f x) i 0
     inner x i l m =
         sym (getD-drop (x * entryWidth) (rowsTo f n ++ drop (n * entryWidth) before) i 0) ∙
         sym (getD-take entryWidth (drop (x * entryWidth) (rowsTo f n ++ drop (n * entryWidth) before)) i 0 m) ∙
-        ap (λ (r : List ℕ). getD r i 0) (rows-at f entryWidth sized n (drop (n * entryWidth) before) x l)
+        ap (λ (r : List ℕ). getD r i 0) (rows-at-in f entryWidth n sized (drop (n * entryWidth) before) x l)
 
     at : (j : ℕ) (b : Bool) → ltb j (n * entryWidth) ≡ b → getD row j 0 ≡ getD (rowsTo f n ++ drop (n * entryWidth) before) j 0
     at j true q =

@@ -1,7 +1,7 @@
 -- Two climbs from the ends of a link: the one with no more nodes below it is not above the other, so the link crosses the node where
 -- it is; where the two come together, the routes meet. Assumes nothing.
 use mathlib.Core.Path.{_≡_, refl, subst, ap₂, _∙_}
-use mathlib.Core.Bool.{Bool, true, false, not, _||_}
+use mathlib.Core.Bool.{Bool, true, false, _||_}
 use Prim.Native.Nat.{ℕ, _<_, _≤_}
 use native.Mathlib.Omega.{arith}
 use Rattle.rows.specs.Lists.{has, upTo}

@@ -1,20 +1,18 @@
 -- The lent row as a whole: some entries afresh, and the table as the case of all. Assumes nothing.
 use mathlib.Core.Path.{_≡_, refl, sym, ap, _∙_}
-use mathlib.Core.Bool.{Bool, true, false, cond}
+use mathlib.Core.Bool.{Bool, true, false}
 use mathlib.Core.List.{List, _++_}
 use Prim.Native.Nat.{ℕ, _*_, _<_, _≤_}
 use native.Mathlib.Omega.{arith}
-use lib.Dec.{ltb}
-use lib.ListN.{length, replicate, drop, getD-replicate, length-replicate, length-drop}
+use lib.ListN.{length, replicate, drop, getD-replicate, length-drop}
 use lib.Seq.{length-take-le}
-use borrow.Author.Tests.{ltb-true, ltb-false, lt-ltb}
+use borrow.Author.Tests.{ltb-false}
 use Rattle.edition.specs.declared.Refusal.{Refusal}
 use Rattle.edition.specs.declared.Verdict.{Verdict}
 use Rattle.edition.specs.declared.Verdict.the-variants.{Taken, Refused}
 use Rattle.edition.specs.declared.Why.the-variants.{NoRoom}
 use Rattle.edition.specs.Limits.{nodeLimit, entryWidth}
 use Rattle.edition.specs.Entries.{entryRow}
-use Rattle.rows.specs.Count.{rowsTo}
 use Rattle.rows.proofs.Refusing.{head-taken, rest-taken, if-taken}
 use Rattle.rows.proofs.Records.{rows-cong}
 use Rattle.network.specs.Network.{Net}
@@ -25,26 +23,6 @@ use Rattle.swap.specs.Entry.{entry}
 use Rattle.table.specs.Table.{table, standing, marked, freshAt, entriesIn, tableVerdict, tableRow, freshRow}
 use Rattle.table.specs.Work.{Entries}
 use Rattle.table.proofs.Slots.{entries-list}
-use Rattle.table.proofs.Offering.{entries-same}
-
--- a row of records whose width is known for the nodes alone
-list-in : (n : ℕ) (f : ℕ → List ℕ) (before row : List ℕ) → ((x : ℕ) → x < n → length (f x) ≡ entryWidth) → n * entryWidth ≤ length before → Entries n f before row → row ≡ rowsTo f n ++ drop (n * entryWidth) before
-list-in n f before row sized room h =
-    entries-list n wide before row wide-size room (entries-same n f wide before row (λ x l. sym (wide-in x l)) h) ∙
-    ap (λ (r : List ℕ). r ++ drop (n * entryWidth) before) (rows-cong wide f n wide-in)
-  where
-    wide : ℕ → List ℕ
-    wide x = cond (ltb x n) (f x) (replicate entryWidth 0)
-
-    wide-in : (x : ℕ) → x < n → wide x ≡ f x
-    wide-in x l = rw (lt-ltb x n l)
-
-    wide-size : (x : ℕ) → length (wide x) ≡ entryWidth
-    wide-size x = go (ltb x n) refl
-      where
-        go : (b : Bool) → ltb x n ≡ b → length (wide x) ≡ entryWidth
-        go true q = rw q (sized x (ltb-true x n q))
-        go false q = rw q (length-replicate {A = ℕ} entryWidth 0)
 
 module _ (g : Net) (row : List ℕ) where
   -- what 1 to 10 leave
@@ -73,7 +51,7 @@ module _ (g : Net) (row : List ℕ) where
     pub fresh-taken : (v : Verdict) → v ≡ tableVerdict g row → v ≡ Taken → (row′ : List ℕ) → Entries (g .nodes) (freshAt g marks row) row row′ → (Taken ≡ tableVerdict g row) × (row′ ≡ freshRow g marks row)
     unfolding freshRow
     fresh-taken v q t row′ h =
-        (sym t ∙ q, rw (← q, t) (list-in (g .nodes) (freshAt g marks row) row row′ (fresh-size (table-room v q t)) (table-room v q t) h))
+        (sym t ∙ q, rw (← q, t) (entries-list (g .nodes) (freshAt g marks row) row row′ (fresh-size (table-room v q t)) (table-room v q t) h))
 
     pub fresh-refused : (v : Verdict) (r : Refusal) → v ≡ tableVerdict g row → v ≡ Refused r → (v ≡ tableVerdict g row) × (row ≡ freshRow g marks row)
     unfolding freshRow

@@ -146,10 +146,6 @@ module _ (t : Tree) where
   pub route-root : (u : ℕ) → Home u → eqb u (t .root) ≡ true → route t u ≡ u ∷ []
   route-root u h e = way-alone (way u h) e
 
-  pub dist-step : (u : ℕ) → Home u → eqb u (t .root) ≡ false → dist t u ≡ t .rise u + dist t (t .up u)
-  unfolding dist total
-  dist-step u h e = rw (route-step u h e)
-
   -- a node on a route has a route, and the route goes on as that
   pub home-up : (u x : ℕ) → Home u → under t x u ≡ true → Home x
   unfolding under

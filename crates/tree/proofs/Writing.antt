@@ -9,7 +9,7 @@ use lib.Seq.{sets}
 use Rattle.edition.specs.declared.Search.{Search}
 use Rattle.edition.specs.Limits.{longest}
 use Rattle.rows.specs.Lists.{total}
-use Rattle.tree.specs.Tree.{climb, route}
+use Rattle.tree.specs.Tree.{climb}
 use Rattle.tree.specs.Work.{Routed}
 use Rattle.tree.proofs.Made.{rise-flat}
 use Rattle.tree.proofs.Climbing.{climb-none, climb-root, climb-up}

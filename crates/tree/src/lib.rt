@@ -1,7 +1,7 @@
 // The tree that a network's parent links make: climbing, routes, distances, where routes meet.
 ghost use mathlib.Core.Path.{_≡_};
 ghost use mathlib.Core.Bool.{true};
-ghost use Prim.Native.Nat.{ℕ, _+_, _*_, _<_, _≤_};
+ghost use Prim.Native.Nat.{_+_, _<_, _≤_};
 ghost use lib.ListN.{length};
 ghost use Rattle.edition.specs.Limits.{nodeLimit};
 ghost use Rattle.rows.specs.Count.{rowWith};
