@@ -2,21 +2,22 @@
 use mathlib.Core.Path.{_≡_, refl, sym, subst, ap, _∙_}
 use mathlib.Core.Bool.{Bool, true, false}
 use mathlib.Core.List.{List, _++_, append-assoc}
-use Prim.Native.Nat.{ℕ, _+_, _*_, _-_, _<_, _≤_, min}
+use Prim.Native.Nat.{ℕ, _+_, _*_, _-_, _<_, _≤_}
 use native.Mathlib.Omega.{arith}
-use lib.Dec.{eqb, leb}
+use lib.Dec.{eqb}
 use lib.ListN.{length, getD, take, drop}
 use lib.Seq.{sets, sets-eq, length-sets, take-at, drop-at, getD-drop, length-take-le, getD-take}
-use borrow.Author.Tests.{eqb-false, eq-eqb, ne-eqb, leb-true, leb-false, le-ltb}
-use Rattle.rows.proofs.Tests.{clash}
+use borrow.Author.Tests.{eq-eqb}
 use Rattle.edition.specs.declared.Search.{Search}
 use Rattle.edition.specs.Limits.{nodeLimit, linkLimit, entryWidth, noLink}
-use Rattle.edition.specs.Stored.{blockBytes, frontBytes, headerKind, linksKind, tableKind, headersABlock, linksABlock, entriesABlock}
-use Rattle.block.specs.Block.{capacity, recordBytes, unheard, block, sealed}
+use Rattle.edition.specs.Stored.{blockBytes, frontBytes, headerKind, linksKind}
+use Rattle.block.specs.Block.{unheard, block, sealed}
 use Rattle.archive.specs.declared.Part.{Part}
-use Rattle.archive.specs.Parts.{blocksFor, linkBlocks, blockCount, partOf, partAt}
+use Rattle.archive.specs.Parts.{blocksFor, blockCount, partAt}
 use Rattle.archive.specs.Work.{heldBytes, recordIn, laid, Held, Tabled}
 use Rattle.archive.specs.Writer.{recordOf, blockOf}
+use Rattle.block.specs.Bytes.{wordMost}
+use Rattle.archive.proofs.Parting.{Fit, held-room, part-fit, part-heard, Stands, part-stands}
 use Rattle.archive.proofs.Laying.{record-size}
 use Rattle.edition.specs.Entries.{entryRow}
 use Rattle.rows.specs.Count.{rowsTo}
@@ -28,67 +29,6 @@ use Rattle.swap.specs.Entry.{entry}
 use Rattle.table.specs.Table.{table}
 use Rattle.table.specs.Work.{entryAt}
 use Rattle.record.specs.Record.{entryRecord}
-
--- what is known of a part of a file
-pub record Fits (n m : ℕ) (p : Part) : Type 0 where
-  pub some : 0 < p .used
-  pub few : p .used ≤ capacity (p .kind)
-  pub low : p .from + p .used ≤ linkLimit
-  pub bytes : frontBytes + p .used * heldBytes (p .kind) ≤ blockBytes
-  pub size : heldBytes (p .kind) ≡ recordBytes (p .kind)
-  pub nodes : eqb (p .kind) headerKind ≡ false → eqb (p .kind) linksKind ≡ false → p .from + p .used ≤ n
-
--- the smaller of two
-min-cases : (a b : ℕ) → (min a b ≤ a) × (min a b ≤ b) × (0 < a → 0 < b → 0 < min a b)
-min-cases a b = (omega arith, omega arith, λ x y. omega arith)
-
-header-fits : (n m : ℕ) → Fits n m (partOf headerKind headersABlock 1 0)
-unfolding partOf capacity recordBytes heldBytes
-header-fits n m =
-    record {
-      some = omega arith;
-      few = omega arith;
-      low = omega arith;
-      bytes = omega arith;
-      size = refl;
-      nodes = λ e f. clash {b = eqb headerKind headerKind} refl e;
-    }
-
-links-fit : (n m j : ℕ) → m ≤ linkLimit → j < linkBlocks m → Fits n m (partOf linksKind linksABlock m j)
-unfolding partOf capacity recordBytes heldBytes blocksFor
-links-fit n m j few l =
-    let c = min-cases linksABlock (m - j * linksABlock) in
-    record {
-      some = c .2 (omega arith) (omega (arith, l));
-      few = c .0;
-      low = omega (arith, c .1, l, few);
-      bytes = omega (arith, c .0);
-      size = refl;
-      nodes = λ e f. clash {b = eqb linksKind linksKind} refl f;
-    }
-
-entries-fit : (n m j : ℕ) → n ≤ nodeLimit → j < blocksFor entriesABlock n → Fits n m (partOf tableKind entriesABlock n j)
-unfolding partOf capacity recordBytes heldBytes blocksFor
-entries-fit n m j few l =
-    let c = min-cases entriesABlock (n - j * entriesABlock) in
-    record {
-      some = c .2 (omega arith) (omega (arith, l));
-      few = c .0;
-      low = omega (arith, c .1, l, few);
-      bytes = omega (arith, c .0);
-      size = refl;
-      nodes = λ e f. omega (arith, c .1, l);
-    }
-
--- every block of a file
-pub part-fits : (n m i : ℕ) → n ≤ nodeLimit → m ≤ linkLimit → i < blockCount n m → Fits n m (partAt n m i)
-unfolding partAt blockCount
-part-fits n m i ln lm l = go (eqb i 0) refl (leb i (linkBlocks m)) refl
-  where
-    go : (a : Bool) → eqb i 0 ≡ a → (b : Bool) → leb i (linkBlocks m) ≡ b → Fits n m (partAt n m i)
-    go true e b f = rw e (header-fits n m)
-    go false e true f = rw (e, f) (links-fit n m (i - 1) lm (omega (arith, leb-true i (linkBlocks m) f, eqb-false i 0 e)))
-    go false e false f = rw (e, f) (entries-fit n m (i - 1 - linkBlocks m) ln (omega (arith, leb-false i (linkBlocks m) f, l)))
 
 -- the entry of x in a row that begins with the table
 module _ (g : Net) (more : List ℕ) (x : ℕ) (l : x < g .nodes) where
@@ -130,13 +70,13 @@ laid-back size records row e l =
     ∙ (ap (take size) (drop-at (take frontBytes row) (records ++ drop (frontBytes + length records) row) frontBytes (length-take-le frontBytes row (omega (arith, l))))
     ∙ take-at records (drop (frontBytes + length records) row) size e)
 
-seal-made : (kind number used : ℕ) (f : ℕ → List ℕ) (part : Part) → part .kind ≡ kind → part .used ≡ used → (before : List ℕ) → length before ≡ blockBytes → 0 < used → used ≤ capacity kind → heldBytes kind ≡ recordBytes kind → frontBytes + used * heldBytes kind ≤ blockBytes → length (rowsTo (λ r. f (part .from + r)) (part .used)) ≡ used * heldBytes kind → sealed kind number used (laid f part before) ≡ block kind number used (rowsTo (λ r. f (part .from + r)) (part .used))
-unfolding sealed laid unheard
-seal-made kind number used f part k u before e some few size bytes records =
+seal-made : (number : ℕ) (f : ℕ → List ℕ) (part : Part) (before : List ℕ) → length before ≡ blockBytes → unheard (part .kind) (part .used) ≡ false → Fit part → length (rowsTo (λ r. f (part .from + r)) (part .used)) ≡ part .used * heldBytes (part .kind) → sealed (part .kind) number (part .used) (laid f part before) ≡ block (part .kind) number (part .used) (rowsTo (λ r. f (part .from + r)) (part .used))
+unfolding sealed laid
+seal-made number f part before e heard fit records =
     let out = sets before frontBytes (rowsTo (λ r. f (part .from + r)) (part .used)) in
     let long : length out ≡ blockBytes = length-sets before frontBytes (rowsTo (λ r. f (part .from + r)) (part .used)) ∙ e in
-    rw (eq-eqb (length out) blockBytes long, ne-eqb used 0 (λ z. omega (arith, some, z)), le-ltb (capacity kind) used few, ← size)
-    (ap (block kind number used) (laid-back (used * heldBytes kind) (rowsTo (λ r. f (part .from + r)) (part .used)) before records (omega (arith, e, bytes))))
+    rw (eq-eqb (length out) blockBytes long, heard, ← fit .size)
+    (ap (block (part .kind) number (part .used)) (laid-back (part .used * heldBytes (part .kind)) (rowsTo (λ r. f (part .from + r)) (part .used)) before records (omega (arith, e, held-room part fit))))
 
 block-is : (links parents : List ℕ) (search : Search) (i : ℕ) → block (partAt (length parents) (linksIn links) i .kind) i (partAt (length parents) (linksIn links) i .used) (rowsTo (λ r. recordOf (netOf links parents search) (partAt (length parents) (linksIn links) i .kind) (partAt (length parents) (linksIn links) i .from + r)) (partAt (length parents) (linksIn links) i .used)) ≡ blockOf (netOf links parents search) i
 unfolding blockOf netOf
@@ -154,7 +94,7 @@ module _ (links parents : List ℕ) (search : Search) (entries : List ℕ) (t : 
   pub sizes-known : (length parents ≤ nodeLimit) × (linksIn links ≤ linkLimit)
   sizes-known = (few-nodes, few-links)
 
-  pub block-number : i ≤ 65535
+  pub block-number : i ≤ wordMost
   unfolding blockCount blocksFor
   block-number = omega (arith, few-nodes, few-links, there)
 
@@ -162,14 +102,17 @@ module _ (links parents : List ℕ) (search : Search) (entries : List ℕ) (t : 
     named : part ≡ partAt (length parents) (linksIn links) i
     named = is ∙ ap (λ k. partAt (length parents) k i) count
 
-    fits : Fits (length parents) (linksIn links) part
-    fits = subst (Fits (length parents) (linksIn links)) (sym named) (part-fits (length parents) (linksIn links) i few-nodes few-links there)
+    fit : Fit part
+    fit = subst Fit (sym named) (part-fit (length parents) (linksIn links) i)
 
-    pub used-small : part .used ≤ 65535
-    used-small = omega (arith, fits .low)
+    heard : unheard (part .kind) (part .used) ≡ false
+    heard = subst (λ (p : Part). unheard (p .kind) (p .used) ≡ false) (sym named) (part-heard (length parents) (linksIn links) i there)
+
+    stands : Stands (length parents) part
+    stands = subst (Stands (length parents)) (sym named) (part-stands (length parents) (linksIn links) i few-nodes few-links there)
 
     pub part-held : (room : ℕ) → room ≡ blockBytes → Held part room
-    part-held room e = record { low = fits .low; fits = omega (arith, fits .bytes, e) }
+    part-held room e = record { low = stands .low; fits = omega (arith, held-room part fit, e) }
 
     pub block-made : (before laidOut after : List ℕ) → length before ≡ blockBytes → laidOut ≡ laid (recordIn links parents search entries (part .kind)) part before → after ≡ sealed (part .kind) i (part .used) laidOut → after ≡ blockOf (netOf links parents search) i
     block-made before laidOut after e q s =
@@ -184,10 +127,10 @@ module _ (links parents : List ℕ) (search : Search) (entries : List ℕ) (t : 
         records-size = rows-length _ (heldBytes (part .kind)) (λ r. record-size links parents search entries (part .kind) (part .from + r)) (part .used)
 
         same : records ≡ rowsTo (λ r. recordOf (netOf links parents search) (part .kind) (part .from + r)) (part .used)
-        same = rows-cong _ _ (part .used) (λ r l. record-is links parents search entries t (part .kind) (part .from + r) (λ a b. omega (arith, l, fits .nodes a b)))
+        same = rows-cong _ _ (part .used) (λ r l. record-is links parents search entries t (part .kind) (part .from + r) (λ a b. omega (arith, l, stands .nodes a b)))
 
         sealed-is : sealed (part .kind) i (part .used) (laid (recordIn links parents search entries (part .kind)) part before) ≡ block (part .kind) i (part .used) (rowsTo (λ r. recordOf (netOf links parents search) (part .kind) (part .from + r)) (part .used))
-        sealed-is = seal-made (part .kind) i (part .used) (recordIn links parents search entries (part .kind)) part refl refl before e (fits .some) (fits .few) (fits .size) (omega (arith, fits .bytes)) records-size ∙ ap (block (part .kind) i (part .used)) same
+        sealed-is = seal-made i (recordIn links parents search entries (part .kind)) part before e heard fit records-size ∙ ap (block (part .kind) i (part .used)) same
 
         block-named : block (partAt (length parents) (linksIn links) i .kind) i (partAt (length parents) (linksIn links) i .used) (rowsTo (λ r. recordOf (netOf links parents search) (partAt (length parents) (linksIn links) i .kind) (partAt (length parents) (linksIn links) i .from + r)) (partAt (length parents) (linksIn links) i .used)) ≡ blockOf (netOf links parents search) i
         block-named = block-is links parents search i

@@ -9,7 +9,8 @@ use native.Mathlib.Omega.{arith}
 use lib.ListN.{length, getD, take, drop, length-drop}
 use lib.Seq.{length-take-le, getD-take, getD-drop, ext-getD}
 use Rattle.edition.specs.Limits.{linkWidth}
-use Rattle.block.specs.Bytes.{numberIn}
+use Rattle.edition.specs.Stored.{blockBytes}
+use Rattle.block.specs.Bytes.{wordMost, numberIn}
 use Rattle.archive.specs.Parts.{linkPlace, entryPlace}
 use Rattle.archive.specs.Work.{linkNumber, parentNumber}
 use Rattle.rows.specs.Lists.{same}
@@ -58,6 +59,6 @@ pub parent-number : (file : List ℕ) (m x place : ℕ) → place ≡ entryPlace
 unfolding parentNumber
 parent-number file m x place p v q = q ∙ ap (λ k. numberIn file k 2) p
 
-pub place-small : (e place : ℕ) → place ≡ linkPlace e → e ≤ 65536 → place ≤ 65536 * 512 * 2
+pub place-small : (e place : ℕ) → place ≡ linkPlace e → e ≤ wordMost → place ≤ wordMost * blockBytes * 2
 unfolding linkPlace
 place-small e place q l = omega (arith, q, l)

@@ -18,6 +18,7 @@ use Rattle.rows.proofs.Tests.{or-false}
 use Rattle.network.specs.Network.{netOf}
 use Rattle.network.specs.Records.{badNodes, badLinks, sizeVerdict}
 use Rattle.sound.specs.Sound.{recordVerdict, netVerdict}
+use Rattle.block.specs.Bytes.{wordMost}
 use Rattle.archive.specs.declared.Header.{Header}
 use Rattle.archive.specs.Parts.{blockCount}
 use Rattle.archive.specs.Reader.{nodesRead, linksRead, searchRead, headRead, netRead, blockRefusal, badEntry, Rows, tight, headVerdict, restVerdict, readVerdict}
@@ -78,10 +79,10 @@ module _ (file : List ℕ) (rows : Rows) (v : Verdict) (is : v ≡ headVerdict f
     unfolding headRead
     links-is = ap (λ (k : Header). k .links) h
 
-    pub small-nodes : head .nodes ≤ 65536
+    pub small-nodes : head .nodes ≤ wordMost
     small-nodes = omega (arith, nodes-is, few-nodes file taken)
 
-    pub small-links : head .links ≤ 65536
+    pub small-links : head .links ≤ wordMost
     small-links = omega (arith, links-is, few-links file taken)
 
     module _ (k : ℕ) (e : k ≡ blockCount (head .nodes) (head .links) * blockBytes) (w : Verdict) (wis : w ≡ refuseIf (not (eqb (length file) k)) BadLength 0) where

@@ -28,6 +28,7 @@ use Rattle.table.specs.Work.{entryAt}
 use Rattle.table.proofs.Single.{bareRow, bare-verdict}
 use Rattle.record.specs.Record.{entryRecord, recordPut}
 use Rattle.record.proofs.Putting.{entry-size}
+use Rattle.block.specs.Bytes.{wordMost}
 use Rattle.archive.specs.Parts.{entryPlace}
 use Rattle.archive.specs.Work.{badBy, badStored, Placed, contentVerdict}
 use Rattle.archive.proofs.Blocks.{entry-read}
@@ -64,7 +65,7 @@ module _ (links parents : List ℕ) (search : Search) (ok : netVerdict (netOf li
   unfolding netOf
   few-nodes = nodes-few (netOf links parents search) (sound (netOf links parents search) ok)
 
-  pub few-links : (m : ℕ) → m ≡ linksIn links → m ≤ 65536
+  pub few-links : (m : ℕ) → m ≡ linksIn links → m ≤ wordMost
   unfolding netOf
   few-links m q = omega (arith, q, links-few (netOf links parents search) (sound (netOf links parents search) ok))
 

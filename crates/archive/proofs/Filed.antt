@@ -1,13 +1,11 @@
 -- What stands in a file that the writer made: its blocks, and in them its records. Of every network. Assumes nothing.
 use mathlib.Core.Path.{_≡_, refl, sym, subst, ap, _∙_}
-use mathlib.Core.Bool.{Bool, true, false}
 use mathlib.Core.List.{List, [], _++_, append-nil}
-use Prim.Native.Nat.{ℕ, suc, _+_, _*_, _-_, _/_, _%_, _<_, _≤_}
+use Prim.Native.Nat.{ℕ, suc, _+_, _*_, _-_, _/_, _%_, _<_}
 use native.Mathlib.Nat.{mul-le-mul-right}
 use native.Mathlib.Omega.{arith}
-use lib.Dec.{eqb, leb}
 use lib.ListN.{length, take, drop, replicate, length-append, length-replicate}
-use borrow.Author.Tests.{eqb-true, eqb-false, ne-eqb, leb-true, leb-false, le-leb, lt-leb}
+use borrow.Author.Tests.{ne-eqb, le-leb, lt-leb}
 use Rattle.edition.specs.Stored.{blockBytes, frontBytes, payloadBytes, headerKind, linksKind, tableKind, headerBytes, linkBytes, entryBytes, headersABlock, linksABlock, entriesABlock}
 use Rattle.rows.specs.Count.{rowsTo}
 use Rattle.rows.proofs.Records.{rows-at, rows-length}
@@ -21,38 +19,25 @@ use Rattle.archive.specs.declared.Part.{Part}
 use Rattle.archive.specs.Parts.{blocksFor, linkBlocks, blockCount, partOf, partAt, linkPlace, entryPlace}
 use Rattle.archive.specs.Writer.{recordOf, blockOf, fileOf}
 use Rattle.archive.specs.Reader.{blockAt}
+use Rattle.archive.specs.Work.{heldBytes}
+use Rattle.archive.proofs.Parting.{kind-size, Fit, part-fit}
 use Rattle.archive.proofs.Pieces.{record-part}
 
--- a part of a file is the header's, one of links or one of entries
-pub by-part : (P : Part → Type 0) (n m i : ℕ) → (i ≡ 0 → P (partOf headerKind headersABlock 1 0)) → (0 < i → i ≤ linkBlocks m → P (partOf linksKind linksABlock m (i - 1))) → (linkBlocks m < i → P (partOf tableKind entriesABlock n (i - 1 - linkBlocks m))) → P (partAt n m i)
-unfolding partAt
-by-part P n m i header links entries = go (eqb i 0) refl (leb i (linkBlocks m)) refl
-  where
-    go : (a : Bool) → eqb i 0 ≡ a → (b : Bool) → leb i (linkBlocks m) ≡ b → P (partAt n m i)
-    go true e b f = rw e (header (eqb-true i 0 e))
-    go false e true f = rw (e, f) (links (omega (arith, eqb-false i 0 e)) (leb-true i (linkBlocks m) f))
-    go false e false f = rw (e, f) (entries (omega (arith, leb-false i (linkBlocks m) f)))
-
 module _ (g : Net) where
-  -- a part whose records fit a block
-  pub record Fit (p : Part) : Type 0 where
-    pub room : p .used * recordBytes (p .kind) ≤ payloadBytes
-    pub sized : (r : ℕ) → length (recordOf g (p .kind) r) ≡ recordBytes (p .kind)
+  -- every record has its size
+  own-size : (kind r : ℕ) → length (recordOf g kind r) ≡ heldBytes kind
+  unfolding recordOf
+  own-size kind r = kind-size kind _ _ _ (header-size _ _ _) (link-size _) (entry-size _ _)
 
-  pub part-fit : (n m i : ℕ) → Fit (partAt n m i)
-  unfolding partOf recordOf recordBytes
-  part-fit n m i =
-      by-part Fit n m i
-      (λ e. record { room = omega arith; sized = λ r. header-size _ _ _ })
-      (λ l h. record { room = omega arith; sized = λ r. link-size _ })
-      (λ h. record { room = omega arith; sized = λ r. entry-size _ _ })
+  sized : (p : Part) → Fit p → (r : ℕ) → length (recordOf g (p .kind) (p .from + r)) ≡ recordBytes (p .kind)
+  sized p f r = own-size (p .kind) (p .from + r) ∙ f .size
 
   -- the records of a part
   abbrev pub recordsOf : Part → List ℕ
   recordsOf p = rowsTo (λ r. recordOf g (p .kind) (p .from + r)) (p .used)
 
   pub records-size : (p : Part) → Fit p → length (recordsOf p) ≡ p .used * recordBytes (p .kind)
-  records-size p f = rows-length (λ r. recordOf g (p .kind) (p .from + r)) (recordBytes (p .kind)) (λ r. f .sized (p .from + r)) (p .used)
+  records-size p f = rows-length (λ r. recordOf g (p .kind) (p .from + r)) (recordBytes (p .kind)) (sized p f) (p .used)
 
   abbrev n : ℕ
   n = g .nodes
@@ -61,7 +46,7 @@ module _ (g : Net) where
   m = g .links
 
   -- every block has 512 bytes
-  block-size : (i : ℕ) → length (blockOf g i) ≡ blockBytes
+  pub block-size : (i : ℕ) → length (blockOf g i) ≡ blockBytes
   unfolding blockOf block front bytesOf filled
   block-size i =
       let f = part-fit n m i in
@@ -90,7 +75,7 @@ module _ (g : Net) where
       sym (record-part (fileOf g) i (r * size) size (omega (arith, f .room, mul-le-mul-right {m = suc r} {n = p .used} size h)))
       ∙ (ap (λ (s : List ℕ). take size (drop (r * size) (drop frontBytes s))) (block-there i l)
       ∙ (ap (λ (s : List ℕ). take size (drop (r * size) s)) (payload-there i ∙ ap (λ (p : Part). recordsOf p ++ replicate (payloadBytes - length (recordsOf p)) 0) e)
-      ∙ rows-at (λ r. recordOf g (p .kind) (p .from + r)) size (λ r. f .sized (p .from + r)) (p .used) (replicate (payloadBytes - length (recordsOf p)) 0) r h))
+      ∙ rows-at (λ r. recordOf g (p .kind) (p .from + r)) size (sized p f) (p .used) (replicate (payloadBytes - length (recordsOf p)) 0) r h))
 
   -- the header's record
   pub header-there : take headerBytes (drop 8 (fileOf g)) ≡ headerRecord n m (g .search)

@@ -1,29 +1,24 @@
 -- The file of a sound network: its size, and what the writer answers. Assumes nothing.
 use mathlib.Core.Path.{_≡_, refl, sym, subst, ap, _∙_}
-use mathlib.Core.Bool.{Bool, true, false}
-use mathlib.Core.List.{List, _∷_, _++_}
+use mathlib.Core.List.{List, _++_}
 use Prim.Native.Nat.{ℕ, _+_, _*_, _-_, _<_, _≤_}
 use native.Mathlib.Omega.{arith}
-use lib.Dec.{eqb, ltb}
-use lib.ListN.{length, drop, replicate, length-append, length-replicate}
+use lib.Dec.{ltb}
+use lib.ListN.{length, drop}
 use Rattle.edition.specs.declared.Search.{Search}
 use Rattle.edition.specs.declared.Verdict.{Verdict}
 use Rattle.edition.specs.declared.Verdict.the-variants.{Taken, Refused}
-use Rattle.edition.specs.Stored.{blockBytes, payloadBytes, headerKind, linksKind}
+use Rattle.edition.specs.Stored.{blockBytes}
 use Rattle.rows.specs.Count.{rowsTo}
-use Rattle.rows.proofs.Records.{rows-length}
-use Rattle.network.specs.Network.{Net, linksIn, netOf}
+use Rattle.network.specs.Network.{linksIn, netOf}
 use Rattle.sound.specs.Sound.{netVerdict}
 use Rattle.sound.proofs.Sounds.{sound}
 use Rattle.sound.proofs.Holding.{nodes-few, links-few}
-use Rattle.block.specs.Block.{front, filled, block}
-use Rattle.record.proofs.Putting.{bytes-length, header-size, link-size, entry-size}
-use Rattle.block.specs.Bytes.{bytesOf, checksum}
-use Rattle.swap.specs.Entry.{entry}
-use Rattle.archive.proofs.Blocks.{part-fits}
-use Rattle.archive.specs.Parts.{blocksFor, blockCount, partAt}
-use Rattle.archive.specs.Work.{heldBytes, Tabled}
-use Rattle.archive.specs.Writer.{recordOf, blockOf, fileOf, fileLength, writeVerdict, writeAnswer, writtenRow}
+use Rattle.block.specs.Bytes.{wordMost}
+use Rattle.archive.proofs.Filed.{block-size}
+use Rattle.archive.specs.Parts.{blocksFor, blockCount}
+use Rattle.archive.specs.Work.{Tabled}
+use Rattle.archive.specs.Writer.{blockOf, fileOf, fileLength, writeVerdict, writeAnswer, writtenRow}
 use Rattle.archive.specs.declared.WriteAnswer.the-variants.{Is, Not}
 use Rattle.edition.specs.declared.Refusal.{Refusal}
 use Rattle.edition.specs.declared.Why.the-variants.{NoRoom}
@@ -35,16 +30,16 @@ use Rattle.table.proofs.Single.{bareRow, bare-verdict}
 use borrow.Author.Tests.{ltb-false}
 
 -- how many blocks there can be
-pub few-blocks : (n m r : ℕ) → r ≡ blockCount n m → n ≤ 65536 → m ≤ 65536 → r ≤ 65536
+pub few-blocks : (n m r : ℕ) → r ≡ blockCount n m → n ≤ wordMost → m ≤ wordMost → r ≤ wordMost
 unfolding blockCount blocksFor
 few-blocks n m r q ln lm = omega (arith, q, ln, lm)
 
 module _ (links parents : List ℕ) (search : Search) (entries : List ℕ) (t : Tabled (netOf links parents search) entries) where
-  pub nodes-small : length parents ≤ 65536
+  pub nodes-small : length parents ≤ wordMost
   unfolding netOf
   nodes-small = omega (arith, nodes-few (netOf links parents search) (sound (netOf links parents search) (t .ok)))
 
-  pub links-small : (m : ℕ) → m ≡ linksIn links → m ≤ 65536
+  pub links-small : (m : ℕ) → m ≡ linksIn links → m ≤ wordMost
   unfolding netOf
   links-small m q = omega (arith, q, links-few (netOf links parents search) (sound (netOf links parents search) (t .ok)))
 
@@ -69,44 +64,9 @@ pub file-room : (links parents : List ℕ) (search : Search) (room : ℕ) → fi
 unfolding fileLength netOf
 file-room links parents search room l = l
 
--- a block has 512 bytes
-front-length : (kind number used : ℕ) → length (front kind number used) ≡ 6
-unfolding front bytesOf
-front-length kind number used = refl
-
-filled-length : (records : List ℕ) → length records ≤ payloadBytes → length (filled records) ≡ payloadBytes
-unfolding filled
-filled-length records l =
-    omega (arith, l, length-append records (replicate (payloadBytes - length records) 0), length-replicate {A = ℕ} (payloadBytes - length records) 0)
-
-pub block-length : (kind number used : ℕ) (records : List ℕ) → length records ≤ payloadBytes → length (block kind number used records) ≡ blockBytes
-unfolding block
-block-length kind number used records l =
-    let head = front kind number used in
-    let check = checksum (head ++ 0 ∷ 0 ∷ filled records) in
-    omega (arith, length-append (head ++ bytesOf 2 check) (filled records), length-append head (bytesOf 2 check), front-length kind number used, bytes-length 2 check, filled-length records l)
-
--- every record of a network has its size
-own-size : (g : Net) (kind r : ℕ) → length (recordOf g kind r) ≡ heldBytes kind
-unfolding recordOf heldBytes
-own-size g kind r = go (eqb kind headerKind) refl (eqb kind linksKind) refl
-  where
-    go : (a : Bool) → eqb kind headerKind ≡ a → (b : Bool) → eqb kind linksKind ≡ b → length (recordOf g kind r) ≡ heldBytes kind
-    go true e b f = rw e (header-size (g .nodes) (g .links) (g .search))
-    go false e true f = rw (e, f) (link-size (g .link r))
-    go false e false f = rw (e, f) (entry-size (g .parent r) (entry g r))
-
-pub block-sized : (g : Net) → netVerdict g ≡ Taken → (i : ℕ) → i < blockCount (g .nodes) (g .links) → length (blockOf g i) ≡ blockBytes
-unfolding blockOf
-block-sized g ok i l =
-    let p = partAt (g .nodes) (g .links) i in
-    let fits = part-fits (g .nodes) (g .links) i (nodes-few g (sound g ok)) (links-few g (sound g ok)) l in
-    block-length (p .kind) i (p .used) (rowsTo (λ r. recordOf g (p .kind) (p .from + r)) (p .used))
-    (omega (arith, fits .bytes, rows-length (λ r. recordOf g (p .kind) (p .from + r)) (heldBytes (p .kind)) (λ r. own-size g (p .kind) (p .from + r)) (p .used)))
-
+-- each block has its size
 pub rows-sized : (links parents : List ℕ) (search : Search) (entries : List ℕ) → Tabled (netOf links parents search) entries → (i : ℕ) → i < blockCount (length parents) (linksIn links) → length (blockOf (netOf links parents search) i) ≡ blockBytes
-unfolding netOf
-rows-sized links parents search entries t i l = block-sized (netOf links parents search) (t .ok) i l
+rows-sized links parents search entries t i l = block-size (netOf links parents search) i
 
 -- what the loop leaves is the file
 pub file-is : (links parents : List ℕ) (search : Search) (before after : List ℕ) → after ≡ rowsTo (blockOf (netOf links parents search)) (blockCount (length parents) (linksIn links)) ++ drop (blockCount (length parents) (linksIn links) * blockBytes) before → after ≡ fileOf (netOf links parents search) ++ drop (fileLength (netOf links parents search)) before
@@ -115,7 +75,7 @@ file-is links parents search before after q = q
 
 -- the writer's verdict and answer
 module _ (links parents : List ℕ) (search : Search) (file : List ℕ) where
-  pub numbers-small : (v : Verdict) → v ≡ netVerdict (netOf links parents search) → v ≡ Taken → (length parents ≤ 65536) × (linksIn links ≤ 65536)
+  pub numbers-small : (v : Verdict) → v ≡ netVerdict (netOf links parents search) → v ≡ Taken → (length parents ≤ wordMost) × (linksIn links ≤ wordMost)
   unfolding netOf
   numbers-small v q t =
       let s = sound (netOf links parents search) (sym q ∙ t) in
@@ -141,7 +101,7 @@ module _ (links parents : List ℕ) (search : Search) (file : List ℕ) where
     unfolding writeVerdict
     write-room = ltb-false (length file) (fileLength (netOf links parents search)) (if-taken _ NoRoom 0 (head-taken _ _ (rest-taken _ _ t)))
 
-    pub write-numbers : (length parents ≤ 65536) × (linksIn links ≤ 65536)
+    pub write-numbers : (length parents ≤ wordMost) × (linksIn links ≤ wordMost)
     write-numbers = numbers-small Taken (sym net-taken) refl
 
     pub write-tabled : (entries : List ℕ) → entries ≡ tableRow (netOf links parents search) bareRow → Tabled (netOf links parents search) entries

@@ -1,12 +1,12 @@
 -- The blocks of a file one after the other: the first that is refused decides. Assumes nothing.
-use mathlib.Core.Path.{_≡_, refl, sym, subst, ap, _∙_}
+use mathlib.Core.Path.{_≡_, refl, sym, ap, _∙_}
 use mathlib.Core.Bool.{Bool, true, false}
 use mathlib.Core.List.{List}
-use Prim.Native.Nat.{ℕ, zero, suc, _+_, _*_, _-_, _<_, _≤_, min}
+use Prim.Native.Nat.{ℕ, zero, suc, _+_, _*_, _-_, _<_, _≤_}
 use native.Mathlib.Nat.{not-suc-le-zero}
 use native.Mathlib.Numerals.{add-one}
 use native.Mathlib.Omega.{arith}
-use lib.Dec.{eqb, leb}
+use lib.Dec.{eqb}
 use lib.ListN.{take, drop}
 use borrow.Author.Tests.{eqb-true, eqb-false}
 use Rattle.edition.specs.declared.Refusal.{Refusal}
@@ -18,24 +18,8 @@ use Rattle.rows.proofs.Refusing.{head-refuses, head-passes, only-one, to-passes
 use Rattle.rows.proofs.Tests.{lastly}
 use Rattle.block.specs.Block.{blockVerdict}
 use Rattle.archive.specs.declared.Part.{Part}
-use Rattle.archive.specs.Parts.{linkBlocks, partOf, partAt}
+use Rattle.archive.specs.Parts.{partAt}
 use Rattle.archive.specs.Reader.{blockAt, blockRefusal}
-
-min-low : (a b : ℕ) → min a b ≤ a
-min-low a b = omega arith
-
-used-small : (n m i : ℕ) → partAt n m i .used ≤ 63
-unfolding partAt partOf
-used-small n m i = go (eqb i 0) refl (leb i (linkBlocks m)) refl
-  where
-    go : (a : Bool) → eqb i 0 ≡ a → (b : Bool) → leb i (linkBlocks m) ≡ b → partAt n m i .used ≤ 63
-    go true e b f = rw e (omega arith)
-    go false e true f = rw (e, f) (min-low 63 (m - (i - 1) * 63))
-    go false e false f = rw (e, f) (omega (arith, min-low 18 (n - (i - 1 - linkBlocks m) * 18)))
-
--- no part holds more than 63 records
-pub part-small : (n m i : ℕ) (part : Part) → part ≡ partAt n m i → part .used ≤ 63
-part-small n m i part q = subst (λ (p : Part). p .used ≤ 63) (sym q) (used-small n m i)
 
 -- block i by the bytes of its place
 pub part-refusal : (file : List ℕ) (n m i : ℕ) (part : Part) → part ≡ partAt n m i → (k : ℕ) → k ≡ blockBytes → (v : Verdict) → v ≡ blockVerdict (part .kind) i (part .used) (take k (drop (i * blockBytes) file)) → v ≡ blockRefusal file n m i

@@ -1,33 +1,27 @@
 -- The loop that puts the records of a part one after the other. Assumes nothing.
 use mathlib.Core.Path.{_≡_, refl, sym, subst, ap, _∙_}
-use mathlib.Core.Bool.{Bool, true, false}
 use mathlib.Core.List.{List}
 use Prim.Native.Nat.{ℕ, suc, _+_, _*_, _<_, _≤_}
 use native.Mathlib.Nat.{mul-le-mul-right}
 use native.Mathlib.Numerals.{add-one}
 use native.Mathlib.Omega.{arith}
-use lib.Dec.{eqb}
 use lib.ListN.{length}
 use lib.Seq.{sets, length-sets}
 use borrow.Author.Tests.{le-leb}
 use Rattle.edition.specs.declared.Search.{Search}
-use Rattle.edition.specs.Stored.{frontBytes, headerKind, linksKind}
+use Rattle.edition.specs.Stored.{frontBytes}
 use Rattle.rows.specs.Count.{rowsTo}
 use Rattle.rows.proofs.Records.{rows-length}
 use Rattle.record.specs.Record.{recordPut}
 use Rattle.record.proofs.Putting.{sets-behind, header-size, link-size, entry-size}
 use Rattle.archive.specs.declared.Part.{Part}
 use Rattle.archive.specs.Work.{heldBytes, recordIn, laid, Held}
+use Rattle.archive.proofs.Parting.{kind-size}
 
 -- every record of a kind has its size
 pub record-size : (links parents : List ℕ) (search : Search) (entries : List ℕ) (kind r : ℕ) → length (recordIn links parents search entries kind r) ≡ heldBytes kind
-unfolding recordIn heldBytes
-record-size links parents search entries kind r = go (eqb kind headerKind) refl (eqb kind linksKind) refl
-  where
-    go : (a : Bool) → eqb kind headerKind ≡ a → (b : Bool) → eqb kind linksKind ≡ b → length (recordIn links parents search entries kind r) ≡ heldBytes kind
-    go true e b f = rw e (header-size _ _ search)
-    go false e true f = rw (e, f) (link-size _)
-    go false e false f = rw (e, f) (entry-size _ _)
+unfolding recordIn
+record-size links parents search entries kind r = kind-size kind _ _ _ (header-size _ _ search) (link-size _) (entry-size _ _)
 
 -- what the loop keeps
 pub record Laying (f : ℕ → List ℕ) (part : Part) (before : List ℕ) (r : ℕ) (now : List ℕ) : Type 0 where

@@ -6,13 +6,13 @@ use Prim.Native.Nat.{ℕ, _+_, _*_, _-_, _%_, _<_, _≤_, min}
 use native.Mathlib.Omega.{arith}
 use lib.Dec.{eqb}
 use lib.ListN.{length, getD, take, drop}
-use borrow.Author.Tests.{eq-eqb, ne-eqb, le-ltb}
+use borrow.Author.Tests.{eq-eqb, ne-eqb}
 use Rattle.edition.specs.declared.Search.{Search}
 use Rattle.edition.specs.declared.Verdict.{Verdict}
 use Rattle.edition.specs.declared.Verdict.the-variants.{Taken}
 use Rattle.edition.specs.declared.Why.the-variants.{BadLength, NoRoom, BadEntry}
 use Rattle.edition.specs.Limits.{longest}
-use Rattle.edition.specs.Stored.{editionLimits, blockBytes, headerKind, linksKind, tableKind, entryBytes, linksABlock, entriesABlock}
+use Rattle.edition.specs.Stored.{editionLimits, blockBytes, tableKind, entryBytes, entriesABlock}
 use Rattle.rows.specs.Count.{rowsTo}
 use Rattle.rows.specs.First.{refuseIf, refuseAt, firstly, verdictTo}
 use Rattle.rows.specs.Lists.{same}
@@ -23,22 +23,17 @@ use Rattle.network.specs.Records.{sizeVerdict}
 use Rattle.sound.specs.Sound.{recordVerdict, netVerdict}
 use Rattle.swap.specs.Entry.{entry}
 use Rattle.block.specs.Bytes.{bytesOf}
-use Rattle.block.specs.Block.{capacity, block, unheard, blockVerdict}
+use Rattle.block.specs.Block.{blockVerdict}
 use Rattle.block.proofs.Whole.{Zeroed, sealed-sound}
 use Rattle.record.specs.Record.{entryRecord}
 use Rattle.record.proofs.Putting.{entry-size}
-use Rattle.archive.specs.declared.Part.{Part}
-use Rattle.archive.specs.Parts.{blocksFor, linkBlocks, blockCount, partOf, partAt, entryPlace}
+use Rattle.archive.specs.Parts.{linkBlocks, blockCount, partOf, partAt, entryPlace}
 use Rattle.archive.specs.Writer.{recordOf, blockOf, fileOf}
 use Rattle.archive.specs.Reader.{searchRead, netRead, blockRefusal, unequal, badEntry, Rows, tight, headVerdict, restVerdict, readVerdict}
+use Rattle.archive.proofs.Parting.{by-part, part-fit, part-heard}
 use Rattle.archive.proofs.Pieces.{row-get}
-use Rattle.archive.proofs.Filed.{by-part, part-fit, recordsOf, records-size, file-size, block-there, entry-there}
+use Rattle.archive.proofs.Filed.{recordsOf, records-size, file-size, block-there, entry-there}
 use Rattle.archive.proofs.Returning.{nodes-written, links-written, depth-written, network-back}
-
--- the count of a block is some, and no more than it holds
-heard-is : (kind used : ℕ) → 0 < used → used ≤ capacity kind → unheard kind used ≡ false
-unfolding unheard
-heard-is kind used some few = rw (ne-eqb used 0 (λ z. omega (arith, some, z)), le-ltb (capacity kind) used few)
 
 module _ (g : Net) where
   abbrev n : ℕ
@@ -47,41 +42,28 @@ module _ (g : Net) where
   abbrev m : ℕ
   m = g .links
 
-  -- a part that some block has, with zeros where an entry has zeros
-  record Heard (p : Part) : Type 0 where
-    heard : unheard (p .kind) (p .used) ≡ false
-    clean : p .kind ≡ tableKind → (r : ℕ) → r < p .used → Zeroed (recordsOf g p) r
-
   entries-clean : (from used r : ℕ) → r < used → Zeroed (rowsTo (λ r. recordOf g tableKind (from + r)) used) r
   unfolding recordOf entryRecord bytesOf
   entries-clean from used r l =
       let at = row-get (λ r. recordOf g tableKind (from + r)) entryBytes (λ r. entry-size (g .parent (from + r)) (entry g (from + r))) used r in
       record { first = at 3 0 l (omega arith); second = at 10 0 l (omega arith); third = at 11 0 l (omega arith) }
 
-  part-heard : (i : ℕ) → i < blockCount n m → Heard (partAt n m i)
-  unfolding partOf capacity blockCount blocksFor
-  part-heard i l =
-      by-part Heard n m i
-      (λ e. record { heard = heard-is headerKind 1 (omega arith) (omega arith); clean = λ q. absurd (omega (arith, q)) })
-      (λ s h.
-      record {
-        heard = heard-is linksKind (min linksABlock (m - (i - 1) * linksABlock)) (omega (arith, s, h)) (omega arith);
-        clean = λ q. absurd (omega (arith, q));
-      })
-      (λ h.
-      record {
-        heard = heard-is tableKind (min entriesABlock (n - (i - 1 - linkBlocks m) * entriesABlock)) (omega (arith, h, l)) (omega arith);
-        clean = λ q. entries-clean ((i - 1 - linkBlocks m) * entriesABlock) (min entriesABlock (n - (i - 1 - linkBlocks m) * entriesABlock));
-      })
+  -- zeros where an entry has zeros
+  part-clean : (i : ℕ) → partAt n m i .kind ≡ tableKind → (r : ℕ) → r < partAt n m i .used → Zeroed (recordsOf g (partAt n m i)) r
+  unfolding partOf
+  part-clean i =
+      by-part (λ p. p .kind ≡ tableKind → (r : ℕ) → r < p .used → Zeroed (recordsOf g p) r) n m i
+      (λ e q. absurd (omega (arith, q)))
+      (λ s h q. absurd (omega (arith, q)))
+      (λ h q. entries-clean ((i - 1 - linkBlocks m) * entriesABlock) (min entriesABlock (n - (i - 1 - linkBlocks m) * entriesABlock)))
 
   -- every block of the file is taken
   block-taken : (i : ℕ) → i < blockCount n m → blockRefusal (fileOf g) n m i ≡ Taken
   unfolding blockRefusal blockOf
   block-taken i l =
       let p = partAt n m i in
-      let h = part-heard i l in
       ap (blockVerdict (p .kind) i (p .used)) (block-there g i l)
-      ∙ sealed-sound (p .kind) i (p .used) (recordsOf g p) (h .heard) (records-size g p (part-fit g n m i)) (h .clean)
+      ∙ sealed-sound (p .kind) i (p .used) (recordsOf g p) (part-heard n m i l) (records-size g p (part-fit n m i)) (part-clean i)
 
   header-taken : blockRefusal (fileOf g) 0 0 0 ≡ Taken
   unfolding blockRefusal partAt blockCount

@@ -1,14 +1,14 @@
 // The file of a network and depth: which block holds which records, the writer and the reader.
 ghost use mathlib.Core.Path.{_≡_};
-ghost use Prim.Native.Nat.{_+_, _*_, _-_, _<_, _≤_, _^_, min};
+ghost use Prim.Native.Nat.{_+_, _*_, _-_, _<_, _≤_, min};
 ghost use mathlib.Core.List.{_++_};
 ghost use lib.ListN.{length, take, drop};
-ghost use lib.Seq.{sets};
 ghost use Rattle.edition.specs.Limits.{nodeLimit, linkLimit, linkWidth, entryWidth};
-ghost use Rattle.edition.specs.Stored.{frontBytes, blockBytes, entryBytes, blockLimit};
+ghost use Rattle.edition.specs.Stored.{blockBytes, entryBytes};
 ghost use Rattle.network.specs.Network.{netOf, linksIn};
 ghost use Rattle.sound.specs.Sound.{netVerdict};
 ghost use Rattle.table.specs.Work.{entryAt};
+ghost use Rattle.block.specs.Bytes.{wordMost};
 ghost use Rattle.record.specs.Record.{recordPut};
 ghost use Rattle.archive.specs.Work.{heldBytes, recordIn, laid, Held, Tabled, linkNumber, parentNumber, badBy, badStored, Placed, contentVerdict, Blocked};
 ghost use Rattle.rows.specs.Count.{rowWith};
@@ -18,7 +18,7 @@ ghost use Rattle.archive.specs.Reader.{blockRefusal, headRead, netRead, 
 ghost use Rattle.table.specs.Table.{table};
 ghost use Rattle.archive.specs.Writer.{blockOf, fileOf, fileLength, writeVerdict, writeAnswer, writtenRow};
 ghost use Rattle.edition.specs.declared.Verdict.the-variants.{Taken};
-ghost use Rattle.archive.specs.Parts.{blocksFor, linkBlocks, blockCount, partOf, partAt, linkPlace, entryPlace};
+ghost use Rattle.archive.specs.Parts.{blocksFor, blockCount, partOf, partAt, linkPlace, entryPlace};
 use edition::Edition;
 use edition::Entry;
 use edition::Found;
@@ -74,7 +74,7 @@ fn left_of(c: usize, from: usize) -> usize
 
 // How many blocks hold c records, so many a block.
 fn blocks_for(each: usize, c: usize) -> usize
-    requires { ⌜ (0 < each) × (each ≤ 65536) × (c ≤ 65536) ⌝ }
+    requires { ⌜ (0 < each) × (each ≤ wordMost) × (c ≤ wordMost) ⌝ }
     ensures { λ r. ⌜ r ≡ blocksFor each c ⌝ }
 {
     (c + (each - 1)) / each
@@ -82,7 +82,7 @@ fn blocks_for(each: usize, c: usize) -> usize
 
 // How many blocks a file of n nodes and m links has.
 fn block_count(n: usize, m: usize) -> usize
-    requires { ⌜ (n ≤ 65536) × (m ≤ 65536) ⌝ }
+    requires { ⌜ (n ≤ wordMost) × (m ≤ wordMost) ⌝ }
     ensures { λ r. ⌜ r ≡ blockCount n m ⌝ }
 {
     1 + blocks_for(Edition::LINKS_A_BLOCK, m) + blocks_for(Edition::ENTRIES_A_BLOCK, n)
@@ -90,7 +90,7 @@ fn block_count(n: usize, m: usize) -> usize
 
 // Block j of those of a kind: each but the last is full.
 fn part_of(kind: u8, each: usize, c: usize, j: usize) -> Part
-    requires { ⌜ (each ≤ 65536) × (j ≤ 65536) ⌝ }
+    requires { ⌜ (each ≤ wordMost) × (j ≤ wordMost) ⌝ }
     ensures { λ r. ⌜ r ≡ partOf kind each c j ⌝ }
 {
     let from = j * each;
@@ -103,7 +103,7 @@ fn part_of(kind: u8, each: usize, c: usize, j: usize) -> Part
 
 // Block i of a file of n nodes and m links.
 fn part_at(n: usize, m: usize, i: usize) -> Part
-    requires { ⌜ (n ≤ 65536) × (m ≤ 65536) × (i ≤ 65536) ⌝ }
+    requires { ⌜ (n ≤ wordMost) × (m ≤ wordMost) × (i ≤ wordMost) ⌝ }
     ensures { λ r. ⌜ r ≡ partAt n m i ⌝ }
 {
     if i == 0 {
@@ -239,7 +239,7 @@ fn write_block(
 
 // The length of a file of n nodes and m links.
 fn file_length(n: usize, m: usize) -> usize
-    requires { ⌜ (n ≤ 65536) × (m ≤ 65536) ⌝ }
+    requires { ⌜ (n ≤ wordMost) × (m ≤ wordMost) ⌝ }
     ensures { λ r. ⌜ r ≡ blockCount n m * blockBytes ⌝ }
 {
     block_count(n, m) * Edition::BLOCK_BYTES
@@ -302,7 +302,7 @@ pub fn write(links: &[u16], parents: &[u16], search: Search, file: &mut [u8]) ->
 
 // What block i of a file of n nodes and m links is refused for.
 fn check_part(file: &[u8], n: usize, m: usize, i: usize) -> Verdict
-    requires { ⌜ (n ≤ 65536) × (m ≤ 65536) × (i ≤ 65535) × (i * blockBytes + blockBytes ≤ length (now file)) ⌝ }
+    requires { ⌜ (n ≤ wordMost) × (m ≤ wordMost) × (i ≤ wordMost) × (i * blockBytes + blockBytes ≤ length (now file)) ⌝ }
     ensures { λ r. ⌜ r ≡ blockRefusal (now (file .entry)) n m i ⌝ }
 {
     let part = part_at(n, m, i);
@@ -317,7 +317,7 @@ fn check_part(file: &[u8], n: usize, m: usize, i: usize) -> Verdict
 
 // The first refusal of the blocks of a file, in number order.
 fn check_blocks(file: &[u8], n: usize, m: usize) -> Verdict
-    requires { ⌜ (n ≤ 65536) × (m ≤ 65536) × (blockCount n m * blockBytes ≤ length (now file)) ⌝ }
+    requires { ⌜ (n ≤ wordMost) × (m ≤ wordMost) × (blockCount n m * blockBytes ≤ length (now file)) ⌝ }
     ensures { λ r. ⌜ r ≡ verdictTo (blockRefusal (now (file .entry)) n m) (blockCount n m) ⌝ }
 {
     let count = block_count(n, m);
@@ -378,7 +378,7 @@ fn check_head(file: &[u8]) -> Verdict
 
 // Where the record of link e stands in a file.
 fn link_place(e: usize) -> usize
-    requires { ⌜ e ≤ 65536 ⌝ }
+    requires { ⌜ e ≤ wordMost ⌝ }
     ensures { λ r. ⌜ r ≡ linkPlace e ⌝ }
 {
     (1 + e / Edition::LINKS_A_BLOCK) * Edition::BLOCK_BYTES
@@ -388,7 +388,7 @@ fn link_place(e: usize) -> usize
 
 // Where the entry of x stands in a file of m links.
 fn entry_place(m: usize, x: usize) -> usize
-    requires { ⌜ (m ≤ 65536) × (x ≤ 65536) ⌝ }
+    requires { ⌜ (m ≤ wordMost) × (x ≤ wordMost) ⌝ }
     ensures { λ r. ⌜ r ≡ entryPlace m x ⌝ }
 {
     let before = blocks_for(Edition::LINKS_A_BLOCK, m);
@@ -399,7 +399,7 @@ fn entry_place(m: usize, x: usize) -> usize
 
 // The link numbers of a file of m links, at the beginning of a row.
 fn fill_links(file: &[u8], m: usize, row: &mut [u16])
-    requires { ⌜ (m ≤ 65536) × (m * linkWidth ≤ length (now row)) ⌝ }
+    requires { ⌜ (m ≤ wordMost) × (m * linkWidth ≤ length (now row)) ⌝ }
     ensures { λ _. ⌜ now (row .exit) ≡ rowWith (linkNumber (now (file .entry))) (m * linkWidth) (now (row .entry)) ⌝ }
 {
     let mut j = 0;
@@ -412,7 +412,7 @@ fn fill_links(file: &[u8], m: usize, row: &mut [u16])
 
 // The parent links of a file of n nodes and m links, at the beginning of a row.
 fn fill_parents(file: &[u8], m: usize, n: usize, row: &mut [u16])
-    requires { ⌜ (m ≤ 65536) × (n ≤ 65536) × (n ≤ length (now row)) ⌝ }
+    requires { ⌜ (m ≤ wordMost) × (n ≤ wordMost) × (n ≤ length (now row)) ⌝ }
     ensures { λ _. ⌜ now (row .exit) ≡ rowWith (parentNumber (now (file .entry)) m) n (now (row .entry)) ⌝ }
 {
     let mut x = 0;
@@ -439,7 +439,7 @@ fn is_same(file: &[u8], at: usize, own: &[u8]) -> bool
 
 // Whether the stored entry of x is not the one of a row of entries.
 fn is_bad_entry(file: &[u8], m: usize, parents: &[u16], entries: &[u64], x: usize) -> bool
-    requires { ⌜ (m ≤ 65536) × (x < nodeLimit) × (entryPlace m x + entryBytes ≤ length (now file)) ⌝ }
+    requires { ⌜ (m ≤ wordMost) × (x < nodeLimit) × (entryPlace m x + entryBytes ≤ length (now file)) ⌝ }
     ensures { λ r. ⌜ r ≡ badBy (now (file .entry)) m (now (parents .entry)) (now (entries .entry)) x ⌝ }
 {
     let mut own = [0u8; Edition::ENTRY_BYTES];
@@ -454,7 +454,7 @@ fn is_bad_entry(file: &[u8], m: usize, parents: &[u16], entries: &[u64], x: usiz
 
 // The lowest node whose stored entry is not the one of a row of entries.
 fn seek_bad_entry(file: &[u8], m: usize, parents: &[u16], entries: &[u64]) -> Found
-    requires { ⌜ (m ≤ 65536) × (length (now parents) ≤ nodeLimit) × Placed (now file) m (length (now parents)) ⌝ }
+    requires { ⌜ (m ≤ wordMost) × (length (now parents) ≤ nodeLimit) × Placed (now file) m (length (now parents)) ⌝ }
     ensures { λ r. ⌜ r ≡ firstTo (badBy (now (file .entry)) m (now (parents .entry)) (now (entries .entry))) (length (now (parents .entry))) ⌝ }
 {
     let mut found = Found::Nothing;

@@ -2,7 +2,6 @@
 // `refused N P` where the file is not accepted. A file over the longest that there can be is refusal 20 at place 0, before
 // any other check.
 ghost use Prim.Native.Nat.{_*_, _≤_, _<_};
-ghost use lib.ListN.{length};
 ghost use Rattle.edition.specs.Limits.{nodeLimit, entryWidth};
 use archive::Header;
 use archive::ReadAnswer;

@@ -1,7 +1,8 @@
 -- `archive::check_part` meets its contract. Assumes nothing.
 use native.Mathlib.Omega.{arith}
 use Prim.Native.Nat.{_-_, _*_, _+_}
-use Rattle.archive.proofs.Judging.{part-small, part-refusal}
+use Rattle.archive.proofs.Parting.{part-small}
+use Rattle.archive.proofs.Judging.{part-refusal}
 use borrow.Author.Needs.{needs}
 use Rattle.archive.proofs.check_part.Statement.{statement}
 use Rattle.archive.proofs.check_part.Tie as tie

@@ -1,6 +1,7 @@
 -- `archive::write_block` meets its contract. Assumes nothing.
 use native.Mathlib.Omega.{arith}
-use Rattle.archive.proofs.Blocks.{sizes-known, block-number, used-small, part-held, block-made}
+use Rattle.archive.proofs.Blocks.{sizes-known, block-number, part-held, block-made}
+use Rattle.archive.proofs.Parting.{part-small}
 use borrow.Author.Needs.{needs}
 use Rattle.archive.proofs.write_block.Statement.{statement}
 use Rattle.archive.proofs.write_block.Tie as tie
@@ -18,7 +19,7 @@ cast-seal : tie.Need-cast-seal
 cast-seal c = omega (arith, block-number _ _ _ _ (c .before .before .before .before .before .before .before .before .before .before .pre .0) _ (c .before .before .before .before .before .before .before .before .before .before .pre .1))
 
 cast-seal-2 : tie.Need-cast-seal-2
-cast-seal-2 c = omega (arith, used-small _ _ _ _ (c .before .before .before .before .before .before .before .before .before .before .before .pre .0) _ (c .before .before .before .before .before .before .before .before .before .before .before .pre .1) _ (c .before .before .before .before .before .before .links-in .ensures) _ (c .before .before .before .before .before .part-at .ensures))
+cast-seal-2 c = omega (arith, part-small _ _ _ _ (c .before .before .before .before .before .part-at .ensures))
 
 seal-requires : tie.Need-seal-requires
 seal-requires c κs = search needs
