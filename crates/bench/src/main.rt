@@ -3,14 +3,10 @@
 //
 // The input is 16-bit words, the high byte first: n, m, root, depth and times; n parents; m records of links. One that is not
 // a whole network within the limits, or that the table refuses, prints `refused`.
-ghost use Prim.Native.Nat.{_+_, _*_, _≤_, _<_};
-ghost use lib.ListN.{length};
 use edition::Memory;
 use edition::Search;
 use edition::Verdict;
-
-// Words of the head.
-const HEAD: usize = 5;
+use words::HEAD;
 
 // Words of the links, and of the entries, at the limits.
 const LINK_WORDS: usize = Memory::LINKS * Memory::LINK;
@@ -20,57 +16,10 @@ const ENTRY_WORDS: usize = Memory::NODES * Memory::ENTRY;
 // Bytes of the longest input, and one more, by which a longer one is seen.
 const BYTES: usize = 2 * (HEAD + Memory::NODES + LINK_WORDS) + 1;
 
-// What the input asks for: how many nodes and links follow, the search, and how often.
-struct Head {
-    nodes: usize,
-    links: usize,
-    search: Search,
-    times: usize,
-}
-
 // The number, or that the input is refused.
 enum Outcome {
     Number(u64),
     Refused,
-}
-
-// Two bytes as one number.
-fn pair(high: u8, low: u8) -> u16 {
-    high as u16 * 256 + low as u16
-}
-
-// Word i of the bytes.
-fn word(raw: &[u8], i: usize) -> u16
-    requires { ⌜ 2 * i + 1 < length (now raw) ⌝ }
-{
-    pair(raw[2 * i], raw[2 * i + 1])
-}
-
-// The head that the bytes begin with.
-fn head_of(raw: &[u8]) -> Head
-    requires { ⌜ 10 ≤ length (now raw) ⌝ }
-{
-    let search = Search {
-        root: word(raw, 2),
-        depth: word(raw, 3),
-    };
-    Head {
-        nodes: word(raw, 0) as usize,
-        links: word(raw, 1) as usize,
-        search,
-        times: word(raw, 4) as usize,
-    }
-}
-
-// Fills the row with the words of the bytes, from word `from` on.
-fn decode(raw: &[u8], from: usize, row: &mut [u16])
-    requires { ⌜ 2 * (from + length (now row)) ≤ length (now raw) ⌝ }
-{
-    let mut i = 0;
-    while i < row.len() {
-        row[i] = word(raw, from + i);
-        i += 1;
-    }
 }
 
 // The number turned by one bit, and another one added, modulo 2^64.
@@ -112,10 +61,7 @@ fn repeat(
 
 // What comes of the bytes of an input.
 fn worked(raw: &[u8], links: &mut [u16], parents: &mut [u16], entries: &mut [u64]) -> Outcome {
-    if raw.len() < 2 * HEAD {
-        return Outcome::Refused;
-    }
-    let head = head_of(raw);
+    let head = words::head_of(raw);
     let n = head.nodes;
     let m = head.links;
     if parents.len() < n {
@@ -130,14 +76,14 @@ fn worked(raw: &[u8], links: &mut [u16], parents: &mut [u16], entries: &mut [u64
     if raw.len() != 2 * (HEAD + n + m * Memory::LINK) {
         return Outcome::Refused;
     }
-    decode(raw, HEAD, &mut parents[0..n]);
-    decode(raw, HEAD + n, &mut links[0..m * Memory::LINK]);
+    words::decode(&raw[2 * HEAD..], &mut parents[0..n]);
+    words::decode(&raw[2 * (HEAD + n)..], &mut links[0..m * Memory::LINK]);
     repeat(
         &links[0..m * Memory::LINK],
         &parents[0..n],
         head.search,
         &mut entries[0..n * Memory::ENTRY],
-        head.times,
+        head.count,
     )
 }
 

@@ -12,10 +12,9 @@ use edition::Memory;
 use edition::Refusal;
 use edition::Search;
 use edition::Verdict;
+use words::HEAD;
 
-// Words of the head, and of a change.
-const HEAD: usize = 5;
-
+// Words of a change.
 const CHANGE: usize = 3;
 
 // The most changes of a series.
@@ -40,70 +39,14 @@ const FACTOR: u64 = 31;
 
 const PRIME: u64 = 4294967291;
 
-// What the input asks for: how many nodes, links and changes follow, and the search.
-struct Head {
-    nodes: usize,
-    links: usize,
-    search: Search,
-    changes: usize,
-}
-
-// Two bytes as one number.
-fn pair(high: u8, low: u8) -> u16 {
-    high as u16 * 256 + low as u16
-}
-
-// Word i of the bytes.
-fn word(raw: &[u8], i: usize) -> u16
-    requires { ⌜ 2 * i + 1 < length (now raw) ⌝ }
-{
-    pair(raw[2 * i], raw[2 * i + 1])
-}
-
-// The head that the bytes begin with.
-fn head_of(raw: &[u8]) -> Head
-    requires { ⌜ 10 ≤ length (now raw) ⌝ }
-{
-    let search = Search {
-        root: word(raw, 2),
-        depth: word(raw, 3),
-    };
-    Head {
-        nodes: word(raw, 0) as usize,
-        links: word(raw, 1) as usize,
-        search,
-        changes: word(raw, 4) as usize,
-    }
-}
-
-// Fills the row with the words of the bytes, from word `from` on.
-fn decode(raw: &[u8], from: usize, row: &mut [u16])
-    requires { ⌜ 2 * (from + length (now row)) ≤ length (now raw) ⌝ }
-{
-    let mut i = 0;
-    while i < row.len() {
-        row[i] = word(raw, from + i);
-        i += 1;
-    }
-}
-
 // The change that stands from word `at` on.
 fn change_at(raw: &[u8], at: usize) -> Change
     requires { ⌜ 2 * (at + 3) ≤ length (now raw) ⌝ }
 {
     Change {
-        link: word(raw, at),
-        mark: word(raw, at + 1),
-        length: word(raw, at + 2),
-    }
-}
-
-// Fills a row.
-fn fill(row: &mut [u64]) {
-    let mut i = 0;
-    while i < row.len() {
-        row[i] = FILL;
-        i += 1;
+        link: words::word(raw, at),
+        mark: words::word(raw, at + 1),
+        length: words::word(raw, at + 2),
     }
 }
 
@@ -213,9 +156,8 @@ fn worked(
 )
     requires { ⌜ 2 * (5 + length (now parents) + length (now links) + 3 * count) ≤ length (now raw) ⌝ }
 {
-    decode(raw, HEAD, parents);
-    decode(raw, HEAD + parents.len(), links);
-    fill(entries);
+    words::decode(&raw[2 * HEAD..], parents);
+    words::decode(&raw[2 * (HEAD + parents.len())..], links);
     let said = table::table(links, parents, search, entries);
     let Verdict::Taken = said else {
         print_verdict(said);
@@ -228,13 +170,10 @@ fn worked(
 
 // Prints the answer of an input. False, with nothing printed, where it is no whole series within the limits.
 fn answered(raw: &[u8], links: &mut [u16], parents: &mut [u16], entries: &mut [u64]) -> bool {
-    if raw.len() < 2 * HEAD {
-        return false;
-    }
-    let head = head_of(raw);
+    let head = words::head_of(raw);
     let n = head.nodes;
     let m = head.links;
-    let k = head.changes;
+    let k = head.count;
     if parents.len() < n {
         return false;
     }
@@ -273,6 +212,6 @@ fn main() {
     let mut raw = [0u8; BYTES];
     let mut links = [0u16; LINK_WORDS];
     let mut parents = [0u16; Memory::NODES];
-    let mut entries = [0u64; ENTRY_WORDS];
+    let mut entries = [FILL; ENTRY_WORDS];
     run(&mut raw, &mut links, &mut parents, &mut entries);
 }
