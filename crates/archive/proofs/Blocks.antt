@@ -9,7 +9,7 @@ use lib.ListN.{length, getD, take, drop}
 use lib.Seq.{sets, sets-eq, length-sets, take-at, drop-at, getD-drop, length-take-le, getD-take}
 use borrow.Author.Tests.{eq-eqb}
 use Rattle.edition.specs.declared.Search.{Search}
-use Rattle.edition.specs.Limits.{nodeLimit, linkLimit, entryWidth, noLink}
+use Rattle.edition.specs.Limits.{entryWidth, noLink}
 use Rattle.edition.specs.Stored.{blockBytes, frontBytes, headerKind, linksKind}
 use Rattle.block.specs.Block.{unheard, block, sealed}
 use Rattle.archive.specs.declared.Part.{Part}
@@ -18,13 +18,12 @@ use Rattle.archive.specs.Work.{heldBytes, recordIn, laid, Held, Tabled}
 use Rattle.archive.specs.Writer.{recordOf, blockOf}
 use Rattle.block.specs.Bytes.{wordMost}
 use Rattle.archive.proofs.Parting.{Fit, held-room, part-fit, part-heard, Stands, part-stands}
+use Rattle.archive.proofs.Files.{few-nodes, few-links}
 use Rattle.archive.proofs.Laying.{record-size}
 use Rattle.edition.specs.Entries.{entryRow}
 use Rattle.rows.specs.Count.{rowsTo}
 use Rattle.rows.proofs.Records.{rows-at, rows-cong, rows-length}
 use Rattle.network.specs.Network.{Net, linksIn, netOf}
-use Rattle.sound.proofs.Sounds.{sound}
-use Rattle.sound.proofs.Holding.{nodes-few, links-few}
 use Rattle.swap.specs.Entry.{entry}
 use Rattle.table.specs.Table.{table}
 use Rattle.table.specs.Work.{entryAt}
@@ -83,20 +82,9 @@ unfolding blockOf netOf
 block-is links parents search i = refl
 
 module _ (links parents : List ℕ) (search : Search) (entries : List ℕ) (t : Tabled (netOf links parents search) entries) (i : ℕ) (there : i < blockCount (length parents) (linksIn links)) where
-  few-nodes : length parents ≤ nodeLimit
-  unfolding netOf
-  few-nodes = nodes-few (netOf links parents search) (sound (netOf links parents search) (t .ok))
-
-  few-links : linksIn links ≤ linkLimit
-  unfolding netOf
-  few-links = links-few (netOf links parents search) (sound (netOf links parents search) (t .ok))
-
-  pub sizes-known : (length parents ≤ nodeLimit) × (linksIn links ≤ linkLimit)
-  sizes-known = (few-nodes, few-links)
-
   pub block-number : i ≤ wordMost
   unfolding blockCount blocksFor
-  block-number = omega (arith, few-nodes, few-links, there)
+  block-number = omega (arith, few-nodes links parents search (t .ok), few-links links parents search (t .ok), there)
 
   module _ (m : ℕ) (count : m ≡ linksIn links) (part : Part) (is : part ≡ partAt (length parents) m i) where
     named : part ≡ partAt (length parents) (linksIn links) i
@@ -109,7 +97,7 @@ module _ (links parents : List ℕ) (search : Search) (entries : List ℕ) (t : 
     heard = subst (λ (p : Part). unheard (p .kind) (p .used) ≡ false) (sym named) (part-heard (length parents) (linksIn links) i there)
 
     stands : Stands (length parents) part
-    stands = subst (Stands (length parents)) (sym named) (part-stands (length parents) (linksIn links) i few-nodes few-links there)
+    stands = subst (Stands (length parents)) (sym named) (part-stands (length parents) (linksIn links) i (few-nodes links parents search (t .ok)) (few-links links parents search (t .ok)) there)
 
     pub part-held : (room : ℕ) → room ≡ blockBytes → Held part room
     part-held room e = record { low = stands .low; fits = omega (arith, held-room part fit, e) }
@@ -118,7 +106,7 @@ module _ (links parents : List ℕ) (search : Search) (entries : List ℕ) (t : 
     block-made before laidOut after e q s =
         s
         ∙ (ap (sealed (part .kind) i (part .used)) q
-        ∙ (sealed-is ∙ ap (λ (p : Part). block (p .kind) i (p .used) (rowsTo (λ r. recordOf (netOf links parents search) (p .kind) (p .from + r)) (p .used))) named ∙ block-named))
+        ∙ (sealed-is ∙ ap (λ (p : Part). block (p .kind) i (p .used) (rowsTo (λ r. recordOf (netOf links parents search) (p .kind) (p .from + r)) (p .used))) named ∙ block-is links parents search i))
       where
         records : List ℕ
         records = rowsTo (λ r. recordIn links parents search entries (part .kind) (part .from + r)) (part .used)
@@ -131,6 +119,3 @@ module _ (links parents : List ℕ) (search : Search) (entries : List ℕ) (t : 
 
         sealed-is : sealed (part .kind) i (part .used) (laid (recordIn links parents search entries (part .kind)) part before) ≡ block (part .kind) i (part .used) (rowsTo (λ r. recordOf (netOf links parents search) (part .kind) (part .from + r)) (part .used))
         sealed-is = seal-made i (recordIn links parents search entries (part .kind)) part before e heard fit records-size ∙ ap (block (part .kind) i (part .used)) same
-
-        block-named : block (partAt (length parents) (linksIn links) i .kind) i (partAt (length parents) (linksIn links) i .used) (rowsTo (λ r. recordOf (netOf links parents search) (partAt (length parents) (linksIn links) i .kind) (partAt (length parents) (linksIn links) i .from + r)) (partAt (length parents) (linksIn links) i .used)) ≡ blockOf (netOf links parents search) i
-        block-named = block-is links parents search i

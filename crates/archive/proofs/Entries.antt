@@ -2,7 +2,7 @@
 use mathlib.Core.Path.{_≡_, sym, subst, ap, ap₂, _∙_}
 use mathlib.Core.Bool.{Bool, not}
 use mathlib.Core.List.{List, _++_, append-nil}
-use Prim.Native.Nat.{ℕ, _+_, _*_, _≤_}
+use Prim.Native.Nat.{ℕ, _+_, _*_}
 use native.Mathlib.Omega.{arith}
 use lib.ListN.{length, getD, take, drop, replicate, length-replicate, drop-of-length-le}
 use lib.Seq.{sets-eq}
@@ -14,21 +14,18 @@ use Rattle.edition.specs.declared.Verdict.{Verdict}
 use Rattle.edition.specs.declared.Verdict.the-variants.{Taken, Refused}
 use Rattle.edition.specs.declared.Why.the-variants.{NoRoom, BadEntry}
 use Rattle.rows.proofs.Refusing.{head-refuses, head-passes, only-one}
-use Rattle.edition.specs.Limits.{noLink, nodeLimit, entryWidth}
+use Rattle.edition.specs.Limits.{noLink, entryWidth}
 use Rattle.edition.specs.Stored.{entryBytes}
 use Rattle.rows.specs.First.{firstTo, refuseIf, refuseAt, refusedAt}
 use Rattle.rows.specs.Lists.{same}
 use Rattle.rows.proofs.Best.{first-cong}
 use Rattle.network.specs.Network.{linksIn, netOf}
 use Rattle.sound.specs.Sound.{netVerdict}
-use Rattle.sound.proofs.Sounds.{sound}
-use Rattle.sound.proofs.Holding.{nodes-few, links-few}
 use Rattle.table.specs.Table.{table, tableRow}
 use Rattle.table.specs.Work.{entryAt}
 use Rattle.table.proofs.Single.{bareRow, bare-verdict}
 use Rattle.record.specs.Record.{entryRecord, recordPut}
 use Rattle.record.proofs.Putting.{entry-size}
-use Rattle.block.specs.Bytes.{wordMost}
 use Rattle.archive.specs.Parts.{entryPlace}
 use Rattle.archive.specs.Work.{badBy, badStored, Placed, contentVerdict}
 use Rattle.archive.proofs.Blocks.{entry-read}
@@ -61,14 +58,6 @@ placed-by file n m l q p = subst (λ k. Placed file k n) (sym q) p
 
 -- by the table of a sound network
 module _ (links parents : List ℕ) (search : Search) (ok : netVerdict (netOf links parents search) ≡ Taken) where
-  pub few-nodes : length parents ≤ nodeLimit
-  unfolding netOf
-  few-nodes = nodes-few (netOf links parents search) (sound (netOf links parents search) ok)
-
-  pub few-links : (m : ℕ) → m ≡ linksIn links → m ≤ wordMost
-  unfolding netOf
-  few-links m q = omega (arith, q, links-few (netOf links parents search) (sound (netOf links parents search) ok))
-
   table-is : (entries : List ℕ) → entries ≡ tableRow (netOf links parents search) bareRow → entries ≡ table (netOf links parents search) ++ drop (netOf links parents search .nodes * entryWidth) bareRow
   unfolding tableRow
   table-is entries q = q ∙ rw (bare-verdict (netOf links parents search) Taken ok)

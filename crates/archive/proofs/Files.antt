@@ -22,7 +22,7 @@ use Rattle.archive.specs.Writer.{blockOf, fileOf, fileLength, writeVerdi
 use Rattle.archive.specs.declared.WriteAnswer.the-variants.{Is, Not}
 use Rattle.edition.specs.declared.Refusal.{Refusal}
 use Rattle.edition.specs.declared.Why.the-variants.{NoRoom}
-use Rattle.edition.specs.Limits.{entryWidth}
+use Rattle.edition.specs.Limits.{nodeLimit, linkLimit, entryWidth}
 use Rattle.rows.specs.First.{refuseIf}
 use Rattle.rows.proofs.Refusing.{head-taken, rest-taken, head-refuses, head-passes, if-taken, only-one}
 use Rattle.table.specs.Table.{tableRow}
@@ -34,14 +34,21 @@ pub few-blocks : (n m r : ℕ) → r ≡ blockCount n m → n ≤ wordMost → m
 unfolding blockCount blocksFor
 few-blocks n m r q ln lm = omega (arith, q, ln, lm)
 
-module _ (links parents : List ℕ) (search : Search) (entries : List ℕ) (t : Tabled (netOf links parents search) entries) where
-  pub nodes-small : length parents ≤ wordMost
+-- the sizes of a sound network
+module _ (links parents : List ℕ) (search : Search) (ok : netVerdict (netOf links parents search) ≡ Taken) where
+  pub few-nodes : length parents ≤ nodeLimit
   unfolding netOf
-  nodes-small = omega (arith, nodes-few (netOf links parents search) (sound (netOf links parents search) (t .ok)))
+  few-nodes = nodes-few (netOf links parents search) (sound (netOf links parents search) ok)
+
+  pub few-links : linksIn links ≤ linkLimit
+  unfolding netOf
+  few-links = links-few (netOf links parents search) (sound (netOf links parents search) ok)
+
+  pub nodes-small : length parents ≤ wordMost
+  nodes-small = omega (arith, few-nodes)
 
   pub links-small : (m : ℕ) → m ≡ linksIn links → m ≤ wordMost
-  unfolding netOf
-  links-small m q = omega (arith, q, links-few (netOf links parents search) (sound (netOf links parents search) (t .ok)))
+  links-small m q = omega (arith, q, few-links)
 
 -- the number of blocks as the code has it
 module _ (n m i k : ℕ) {l : ℕ} (q : m ≡ l) (p : k ≡ blockCount n m) where
@@ -50,12 +57,6 @@ module _ (n m i k : ℕ) {l : ℕ} (q : m ≡ l) (p : k ≡ blockCount n m) wher
 
   pub count-end : k ≤ i → blockCount n l ≤ i
   count-end h = subst (λ j. j ≤ i) (p ∙ ap (blockCount n) q) h
-
-pub count-here : (n m i k : ℕ) → k ≡ blockCount n m → i < k → i < blockCount n m
-count-here n m i k q l = subst (λ j. i < j) q l
-
-pub count-past : (n m i k : ℕ) → k ≡ blockCount n m → k ≤ i → blockCount n m ≤ i
-count-past n m i k q l = subst (λ j. j ≤ i) q l
 
 pub blocks-room : (n m i room : ℕ) → blockCount n m * blockBytes ≤ room → (k : ℕ) → k ≡ blockCount n m → i < k → i * blockBytes + blockBytes ≤ room
 blocks-room n m i room h k q l = omega (arith, h, q, l)
@@ -76,10 +77,8 @@ file-is links parents search before after q = q
 -- the writer's verdict and answer
 module _ (links parents : List ℕ) (search : Search) (file : List ℕ) where
   pub numbers-small : (v : Verdict) → v ≡ netVerdict (netOf links parents search) → v ≡ Taken → (length parents ≤ wordMost) × (linksIn links ≤ wordMost)
-  unfolding netOf
   numbers-small v q t =
-      let s = sound (netOf links parents search) (sym q ∙ t) in
-      (omega (arith, nodes-few (netOf links parents search) s), omega (arith, links-few (netOf links parents search) s))
+      (nodes-small links parents search (sym q ∙ t), links-small links parents search (sym q ∙ t) (linksIn links) refl)
 
   pub network-refuses : (v : Verdict) → v ≡ netVerdict (netOf links parents search) → (r : Refusal) → v ≡ Refused r → v ≡ writeVerdict (netOf links parents search) file
   unfolding writeVerdict

@@ -1,9 +1,10 @@
 -- `archive::check_blocks` meets its contract. Assumes nothing.
+use mathlib.Core.Path.{refl}
 use native.Mathlib.Omega.{arith}
 use Prim.Native.Nat.{_-_}
 use Rattle.archive.specs.Parts.{blockCount}
 use Rattle.archive.specs.Reader.{blockRefusal}
-use Rattle.archive.proofs.Files.{few-blocks, count-here, count-past, blocks-room}
+use Rattle.archive.proofs.Files.{few-blocks, count-is, count-end, blocks-room}
 use Rattle.archive.proofs.Judging.{Passed, passed-start, passed-more, passed-all, refused-here}
 use borrow.Author.Needs.{needs}
 use Rattle.archive.proofs.check_blocks.Statement.{statement}
@@ -37,13 +38,13 @@ loop-less : tie.Need-loop-less Inv-loop μ-loop
 loop-less c = omega (arith, c .before .before .before .if1 .left)
 
 loop-again : tie.Need-loop-again Inv-loop μ-loop
-loop-again c = passed-more _ _ _ (c .before .before .before .before .loop .inv) (count-here _ _ _ _ (c .before .before .before .before .before .block-count .ensures) (c .before .before .before .if1 .left)) _ (c .before .before .check-part .ensures) (c .enum-told .given .1)
+loop-again c = passed-more _ _ _ (c .before .before .before .before .loop .inv) (count-is _ _ _ _ refl (c .before .before .before .before .before .block-count .ensures) (c .before .before .before .if1 .left)) _ (c .before .before .check-part .ensures) (c .enum-told .given .1)
 
 returns : tie.Need-returns Inv-loop μ-loop
-returns c = passed-all _ _ _ (c .before .loop .inv) (count-past _ _ _ _ (c .before .before .block-count .ensures) (c .if1 .taken))
+returns c = passed-all _ _ _ (c .before .loop .inv) (count-end _ _ _ _ refl (c .before .before .block-count .ensures) (c .if1 .taken))
 
 returns-2 : tie.Need-returns-2 Inv-loop μ-loop
-returns-2 c = refused-here _ _ _ (c .before .before .before .before .loop .inv) (count-here _ _ _ _ (c .before .before .before .before .before .block-count .ensures) (c .before .before .before .if1 .left)) _ (c .before .before .check-part .ensures) _ (c .enum-told2 .given .1)
+returns-2 c = refused-here _ _ _ (c .before .before .before .before .loop .inv) (count-is _ _ _ _ refl (c .before .before .before .before .before .block-count .ensures) (c .before .before .before .if1 .left)) _ (c .before .before .check-part .ensures) _ (c .enum-told2 .given .1)
 
 pub check-blocks-spec : {M : Type 1} → statement M
 check-blocks-spec =

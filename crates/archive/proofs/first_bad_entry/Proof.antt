@@ -1,5 +1,6 @@
 -- `archive::first_bad_entry` meets its contract. Assumes nothing.
-use Rattle.archive.proofs.Entries.{few-nodes, few-links, stored-bad, placed-by}
+use Rattle.archive.proofs.Entries.{stored-bad, placed-by}
+use Rattle.archive.proofs.Files.{few-nodes, links-small}
 use borrow.Author.Needs.{needs}
 use Rattle.archive.proofs.first_bad_entry.Statement.{statement}
 use Rattle.archive.proofs.first_bad_entry.Tie as tie
@@ -17,7 +18,7 @@ slice-aggregate-seek-bad-entry : tie.Need-slice-aggregate-seek-bad-entry
 slice-aggregate-seek-bad-entry c = search needs
 
 seek-bad-entry-requires : tie.Need-seek-bad-entry-requires
-seek-bad-entry-requires c κs = (few-links _ _ _ (c .before .before .before .before .before .before .before .before .pre .0) _ (c .before .links-in .ensures), few-nodes _ _ _ (c .before .before .before .before .before .before .before .before .pre .0), placed-by _ _ _ _ (c .before .links-in .ensures) (c .before .before .before .before .before .before .before .before .pre .1))
+seek-bad-entry-requires c κs = (links-small _ _ _ (c .before .before .before .before .before .before .before .before .pre .0) _ (c .before .links-in .ensures), few-nodes _ _ _ (c .before .before .before .before .before .before .before .before .pre .0), placed-by _ _ _ _ (c .before .links-in .ensures) (c .before .before .before .before .before .before .before .before .pre .1))
 
 returns : tie.Need-returns
 returns c = stored-bad _ _ _ (c .before .before .before .before .before .before .before .before .before .pre .0) _ _ (c .before .before .before .before .table .ensures .1) _ (c .before .before .links-in .ensures) _ (c .seek-bad-entry .ensures)

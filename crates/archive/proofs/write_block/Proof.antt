@@ -1,6 +1,7 @@
 -- `archive::write_block` meets its contract. Assumes nothing.
 use native.Mathlib.Omega.{arith}
-use Rattle.archive.proofs.Blocks.{sizes-known, block-number, part-held, block-made}
+use Rattle.archive.proofs.Blocks.{block-number, part-held, block-made}
+use Rattle.archive.proofs.Files.{few-nodes, few-links}
 use Rattle.archive.proofs.Parting.{part-small}
 use borrow.Author.Needs.{needs}
 use Rattle.archive.proofs.write_block.Statement.{statement}
@@ -10,10 +11,10 @@ links-in-requires : tie.Need-links-in-requires
 links-in-requires c κs = search needs
 
 part-at-requires : tie.Need-part-at-requires
-part-at-requires c κs = (omega (arith, sizes-known _ _ _ _ (c .before .before .before .before .before .pre .0) _ (c .before .before .before .before .before .pre .1) .0), omega (arith, sizes-known _ _ _ _ (c .before .before .before .before .before .pre .0) _ (c .before .before .before .before .before .pre .1) .1, c .links-in .ensures), omega (arith, block-number _ _ _ _ (c .before .before .before .before .before .pre .0) _ (c .before .before .before .before .before .pre .1)))
+part-at-requires c κs = (omega (arith, few-nodes _ _ _ (c .before .before .before .before .before .pre .0 .ok)), omega (arith, few-links _ _ _ (c .before .before .before .before .before .pre .0 .ok), c .links-in .ensures), omega (arith, block-number _ _ _ _ (c .before .before .before .before .before .pre .0) _ (c .before .before .before .before .before .pre .1)))
 
 put-records-requires : tie.Need-put-records-requires
-put-records-requires c κs = (part-held _ _ _ _ (c .before .before .before .before .before .before .before .pre .0) _ (c .before .before .before .before .before .before .before .pre .1) _ (c .before .before .links-in .ensures) _ (c .before .part-at .ensures) _ (c .before .before .before .before .before .before .before .pre .2), sizes-known _ _ _ _ (c .before .before .before .before .before .before .before .pre .0) _ (c .before .before .before .before .before .before .before .pre .1) .0, sizes-known _ _ _ _ (c .before .before .before .before .before .before .before .pre .0) _ (c .before .before .before .before .before .before .before .pre .1) .1)
+put-records-requires c κs = (part-held _ _ _ _ (c .before .before .before .before .before .before .before .pre .0) _ (c .before .before .before .before .before .before .before .pre .1) _ (c .before .before .links-in .ensures) _ (c .before .part-at .ensures) _ (c .before .before .before .before .before .before .before .pre .2), few-nodes _ _ _ (c .before .before .before .before .before .before .before .pre .0 .ok), few-links _ _ _ (c .before .before .before .before .before .before .before .pre .0 .ok))
 
 cast-seal : tie.Need-cast-seal
 cast-seal c = omega (arith, block-number _ _ _ _ (c .before .before .before .before .before .before .before .before .before .before .pre .0) _ (c .before .before .before .before .before .before .before .before .before .before .pre .1))

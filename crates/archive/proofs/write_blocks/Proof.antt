@@ -21,16 +21,16 @@ links-in-requires : tie.Need-links-in-requires Inv-loop μ-loop
 links-in-requires c κs = search needs
 
 block-count-requires : tie.Need-block-count-requires Inv-loop μ-loop
-block-count-requires c κs = (nodes-small _ _ _ _ (c .before .before .before .before .before .pre .0), links-small _ _ _ _ (c .before .before .before .before .before .pre .0) _ (c .links-in .ensures))
+block-count-requires c κs = (nodes-small _ _ _ (c .before .before .before .before .before .pre .0 .ok), links-small _ _ _ (c .before .before .before .before .before .pre .0 .ok) _ (c .links-in .ensures))
 
 loop-holds : tie.Need-loop-holds Inv-loop μ-loop
 loop-holds c = filing-start _ _ _ (file-room _ _ _ _ (c .before .before .before .before .before .before .pre .1)) (rows-sized _ _ _ _ (c .before .before .before .before .before .before .pre .0))
 
 mul-at : tie.Need-mul-at Inv-loop μ-loop
-mul-at c = omega (arith, few-blocks _ _ _ (c .before .before .block-count .ensures) (nodes-small _ _ _ _ (c .before .before .before .before .before .before .before .before .pre .0)) (links-small _ _ _ _ (c .before .before .before .before .before .before .before .before .pre .0) _ (c .before .before .before .links-in .ensures)), c .loop-test .taken)
+mul-at c = omega (arith, few-blocks _ _ _ (c .before .before .block-count .ensures) (nodes-small _ _ _ (c .before .before .before .before .before .before .before .before .pre .0 .ok)) (links-small _ _ _ (c .before .before .before .before .before .before .before .before .pre .0 .ok) _ (c .before .before .before .links-in .ensures)), c .loop-test .taken)
 
 add-write-block : tie.Need-add-write-block Inv-loop μ-loop
-add-write-block c = omega (arith, few-blocks _ _ _ (c .before .before .block-count .ensures) (nodes-small _ _ _ _ (c .before .before .before .before .before .before .before .before .pre .0)) (links-small _ _ _ _ (c .before .before .before .before .before .before .before .before .pre .0) _ (c .before .before .before .links-in .ensures)), c .loop-test .taken)
+add-write-block c = omega (arith, few-blocks _ _ _ (c .before .before .block-count .ensures) (nodes-small _ _ _ (c .before .before .before .before .before .before .before .before .pre .0 .ok)) (links-small _ _ _ (c .before .before .before .before .before .before .before .before .pre .0 .ok) _ (c .before .before .before .links-in .ensures)), c .loop-test .taken)
 
 sub-write-block : tie.Need-sub-write-block Inv-loop μ-loop
 sub-write-block c = search needs
