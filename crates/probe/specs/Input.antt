@@ -1,16 +1,12 @@
 -- What the bytes of a case say. Assumes nothing.
 use mathlib.Core.Bool.{Bool, cond}
-use mathlib.Core.List.{List}
+use mathlib.Core.List.{List, _++_}
 use Prim.Native.Nat.{ℕ, _+_, _*_}
-use lib.ListN.{getD}
-use Rattle.rows.specs.Count.{rowWith}
+use lib.ListN.{drop}
+use Rattle.words.specs.Words.{wordIn, wordsIn}
 use Rattle.probe.specs.declared.input.Head.{Head}
 use Rattle.probe.specs.declared.input.Heading.{Heading}
 use Rattle.probe.specs.declared.input.Heading.the-variants.{Is, End}
-
--- Word i of bytes, the high byte first.
-unfoldable pub wordIn : List ℕ → ℕ → ℕ
-wordIn raw i = getD raw (2 * i) 0 * 256 + getD raw (2 * i + 1) 0
 
 -- Words i and i + 1 as one number, the high word first.
 unfoldable pub longIn : List ℕ → ℕ → ℕ
@@ -37,4 +33,4 @@ pub data HeadRead (raw : List ℕ) : Heading → Type 0 where
 
 -- A row after n words were asked for: with the words of the bytes at its beginning where they came, as it was where not.
 unfoldable pub rowRead : Bool → List ℕ → ℕ → List ℕ → List ℕ
-rowRead came raw n row = cond came (rowWith (wordIn raw) n row) row
+rowRead came raw n row = cond came (wordsIn raw n ++ drop n row) row

@@ -1,9 +1,8 @@
 // What is read: the heads of cases, and the words and bytes behind them.
 ghost use mathlib.Core.Path.{_≡_};
-ghost use Prim.Native.Nat.{_+_, _*_, _≤_, _<_};
-ghost use lib.ListN.{length, drop};
-ghost use Rattle.rows.specs.Count.{rowWith};
-ghost use Rattle.probe.specs.Input.{wordIn, longIn, headIn, HeadRead, rowRead};
+ghost use Prim.Native.Nat.{_+_, _*_};
+ghost use lib.ListN.{drop};
+ghost use Rattle.probe.specs.Input.{headIn, HeadRead, rowRead};
 ghost use Rattle.probe.specs.Limits.{mostRest, overRows, isOver};
 use crate::limits::HEAD;
 use crate::ops;
@@ -32,44 +31,30 @@ pub enum Heading {
     End,
 }
 
-// Word i of the bytes, the high byte first.
-fn word(raw: &[u8], i: usize) -> u16
-    requires { ⌜ 2 * i + 1 < length (now raw) ⌝ }
-    ensures { λ r. ⌜ r ≡ wordIn (now (raw .entry)) i ⌝ }
+// Two words as one number, the high word first.
+fn long(high: u16, low: u16) -> usize
+    ensures { λ r. ⌜ r ≡ high * 65536 + low ⌝ }
 {
-    let high = raw[2 * i] as u16;
-    let low = raw[2 * i + 1] as u16;
-    high * 256 + low
-}
-
-// Words i and i + 1 as one number, the high word first.
-fn long(raw: &[u8], i: usize) -> usize
-    requires { ⌜ 2 * i + 3 < length (now raw) ⌝ }
-    ensures { λ r. ⌜ r ≡ longIn (now (raw .entry)) i ⌝ }
-{
-    let high = word(raw, i) as usize;
-    let low = word(raw, i + 1) as usize;
-    high * 65536 + low
+    high as usize * 65536 + low as usize
 }
 
 // The head that these bytes are.
 fn head_of(raw: &[u8]) -> Head
-    requires { ⌜ 22 ≤ length (now raw) ⌝ }
     ensures { λ r. ⌜ r ≡ headIn (now (raw .entry)) ⌝ }
 {
     let search = Search {
-        root: word(raw, 6),
-        depth: word(raw, 7),
+        root: words::word(raw, 6),
+        depth: words::word(raw, 7),
     };
     Head {
-        op: word(raw, 0),
-        parents: word(raw, 1) as usize,
-        rest: long(raw, 2),
-        room: long(raw, 4),
+        op: words::word(raw, 0),
+        parents: words::word(raw, 1) as usize,
+        rest: long(words::word(raw, 2), words::word(raw, 3)),
+        room: long(words::word(raw, 4), words::word(raw, 5)),
         search,
-        a: word(raw, 8),
-        b: word(raw, 9),
-        c: word(raw, 10),
+        a: words::word(raw, 8),
+        b: words::word(raw, 9),
+        c: words::word(raw, 10),
     }
 }
 
@@ -85,9 +70,6 @@ fn read_bytes(raw: &mut [u8], n: usize) -> bool {
 pub fn read_head(raw: &mut [u8]) -> Heading
     ensures { λ r. ⌜ HeadRead (now (raw .exit)) r ⌝ }
 {
-    if raw.len() < 2 * HEAD {
-        return Heading::End;
-    }
     if !read_bytes(raw, 2 * HEAD) {
         return Heading::End;
     }
@@ -133,18 +115,6 @@ pub fn is_over(head: Head) -> bool
     is_over_rows(head)
 }
 
-// Puts the first n words of the bytes at the beginning of the row.
-fn decode(raw: &[u8], row: &mut [u16], n: usize)
-    requires { ⌜ (2 * n ≤ length (now raw)) × (n ≤ length (now row)) ⌝ }
-    ensures { λ _. ⌜ now (row .exit) ≡ rowWith (wordIn (now (raw .entry))) n (now (row .entry)) ⌝ }
-{
-    let mut i = 0;
-    while i < n {
-        row[i] = word(raw, i);
-        i += 1;
-    }
-}
-
 // Reads n words to the beginning of the row, by way of raw bytes. False, with the row as it was, where the input ends first
 // or one of the two is too short.
 fn read_words(raw: &mut [u8], row: &mut [u16], n: usize) -> bool
@@ -159,7 +129,7 @@ fn read_words(raw: &mut [u8], row: &mut [u16], n: usize) -> bool
     if !read_bytes(raw, 2 * n) {
         return false;
     }
-    decode(raw, row, n);
+    words::decode(raw, &mut row[0..n]);
     true
 }
 

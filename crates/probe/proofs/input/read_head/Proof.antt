@@ -4,12 +4,6 @@ use borrow.Author.Needs.{needs}
 use Rattle.probe.proofs.input.read_head.Statement.{statement}
 use Rattle.probe.proofs.input.read_head.Tie as tie
 
-mul-if1 : tie.Need-mul-if1
-mul-if1 c = search needs
-
-returns : tie.Need-returns
-returns c = is-end
-
 mul-read-bytes : tie.Need-mul-read-bytes
 mul-read-bytes c = search needs
 
@@ -19,8 +13,8 @@ read-bytes-requires c κs = search needs
 same-length : tie.Need-same-length
 same-length c = search needs
 
-returns-2 : tie.Need-returns-2
-returns-2 c = is-end
+returns : tie.Need-returns
+returns c = is-end
 
 head-of-requires : tie.Need-head-of-requires
 head-of-requires c κs = search needs
@@ -28,19 +22,17 @@ head-of-requires c κs = search needs
 same-length-2 : tie.Need-same-length-2
 same-length-2 c = search needs
 
-returns-3 : tie.Need-returns-3
-returns-3 c = rw (c .head-of .ensures) is-head
+returns-2 : tie.Need-returns-2
+returns-2 c = rw (c .head-of .ensures) is-head
 
 pub read-head-spec : {M : Type 1} → statement M
 read-head-spec =
     tie.close
     (tie.spec
-    mul-if1
-    returns
     mul-read-bytes
     read-bytes-requires
     same-length
-    returns-2
+    returns
     head-of-requires
     same-length-2
-    returns-3)
+    returns-2)

@@ -1,4 +1,7 @@
 -- `probe::input::read_words` meets its contract. Assumes nothing.
+use Prim.Native.Nat.{_-_}
+use native.Mathlib.Omega.{arith}
+use Rattle.probe.proofs.Behind.{front-read}
 use mathlib.Core.Path.{refl}
 use Rattle.probe.specs.Input.{rowRead}
 use borrow.Author.Needs.{needs}
@@ -26,6 +29,15 @@ returns-3 : tie.Need-returns-3
 unfolding rowRead
 returns-3 c = refl
 
+sub-decode : tie.Need-sub-decode
+sub-decode c = search needs
+
+part-decode-start : tie.Need-part-decode-start
+part-decode-start c = search needs
+
+part-decode-end : tie.Need-part-decode-end
+part-decode-end c = search needs
+
 decode-requires : tie.Need-decode-requires
 decode-requires c κs = search needs
 
@@ -36,8 +48,7 @@ same-length-3 : tie.Need-same-length-3
 same-length-3 c = search needs
 
 returns-4 : tie.Need-returns-4
-unfolding rowRead
-returns-4 c = c .before .before .decode .ensures
+returns-4 c = front-read _ (c .before .before .before .before .before .before .before .before .before .before .before .before .before .before .args .row .now) _ (c .before .before .before .before .before .before .before .before .before .before .before .before .before .before .args .n - 0) (omega arith) (c .before .before .before .before .before .before .before .before .before .before .before .if1 .left) _ (c .before .before .decode .ensures)
 
 pub read-words-spec : {M : Type 1} → statement M
 read-words-spec =
@@ -49,6 +60,9 @@ read-words-spec =
     read-bytes-requires
     same-length
     returns-3
+    sub-decode
+    part-decode-start
+    part-decode-end
     decode-requires
     same-length-2
     same-length-3
