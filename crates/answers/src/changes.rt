@@ -2,14 +2,14 @@
 ghost use Prim.Native.Nat.{_*_, _≤_};
 ghost use lib.ListN.{length};
 ghost use Rattle.edition.specs.Limits.{entryWidth};
-use crate::limits::LINKS;
-use crate::limits::ROOM;
-use crate::rest;
-use crate::tables;
 use edition::Change;
 use edition::Memory;
 use edition::Search;
 use edition::Verdict;
+use lending::limits::LINKS;
+use lending::limits::ROOM;
+use lending::printing;
+use lending::rest;
 
 // Copies a row to the beginning of another that is not shorter.
 fn copy_row(from: &[u16], to: &mut [u16])
@@ -48,26 +48,6 @@ fn is_kept(said: Verdict, links: &[u16], copy: &[u16], e: u16) -> bool {
     }
 }
 
-// Prints the record of link e, where there is one.
-pub fn put_link(out: &mut [u8], at: usize, links: &[u16], e: u16) -> usize
-    ensures { λ r. ⌜ r ≤ length (now (out .exit)) ⌝ }
-{
-    if out.len() < at {
-        return output::flush(out, at);
-    }
-    if network::links_in(links) <= e as usize {
-        return at;
-    }
-    let mut waits = output::put(out, at, b"link");
-    let mut i = 0;
-    while i < Memory::LINK {
-        let number = rows::at(links, e as usize * Memory::LINK + i, 0);
-        waits = output::put_field(out, waits, number as u64);
-        i += 1;
-    }
-    output::put_newline(out, waits)
-}
-
 // Prints `links kept` or `links changed`.
 fn put_kept(out: &mut [u8], at: usize, kept: bool) -> usize
     ensures { λ r. ⌜ r ≤ length (now (out .exit)) ⌝ }
@@ -104,8 +84,8 @@ fn put_left(
     ensures { λ r. ⌜ r ≤ length (now (out .exit)) ⌝ }
 {
     let told = put_said(out, at, said);
-    let linked = put_link(out, told, links, e);
-    let listed = tables::put_entries(out, linked, row, n);
+    let linked = printing::put_link(out, told, links, e);
+    let listed = printing::put_entries(out, linked, row, n);
     let kept = put_kept(out, listed, is_kept(said, links, copy, e));
     rest::put(out, kept, rest::is_kept_wide(row, n * Memory::ENTRY))
 }

@@ -1,10 +1,10 @@
 // Op 3: the unprotected map.
 ghost use Prim.Native.Nat.{_≤_};
 ghost use lib.ListN.{length};
-use crate::limits::ROOM;
-use crate::rest;
 use edition::Memory;
 use edition::Search;
+use lending::limits::ROOM;
+use lending::rest;
 use map::MapAnswer;
 use map::Unprotected;
 

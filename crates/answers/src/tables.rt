@@ -1,46 +1,13 @@
 // Op 2: the table.
 ghost use Prim.Native.Nat.{_≤_};
 ghost use lib.ListN.{length};
-ghost use Rattle.answers.specs.Limits.{mostParents};
-use crate::limits::PARENTS;
-use crate::limits::ROOM;
-use crate::rest;
 use edition::Memory;
 use edition::Search;
 use edition::Verdict;
-
-// Prints the entry line of node u.
-fn put_entry(out: &mut [u8], at: usize, row: &[u64], u: usize) -> usize
-    requires { ⌜ u ≤ mostParents ⌝ }
-    ensures { λ r. ⌜ r ≤ length (now (out .exit)) ⌝ }
-{
-    let mut waits = output::put_number(out, at, u as u64);
-    let mut i = 0;
-    while i < Memory::ENTRY {
-        waits = output::put_field(out, waits, rows::wide_at(row, u * Memory::ENTRY + i));
-        i += 1;
-    }
-    output::put_newline(out, waits)
-}
-
-// Prints the entry lines of the first n nodes; none where n is over the limit on parents.
-pub fn put_entries(out: &mut [u8], at: usize, row: &[u64], n: usize) -> usize
-    ensures { λ r. ⌜ r ≤ length (now (out .exit)) ⌝ }
-{
-    if out.len() < at {
-        return output::flush(out, at);
-    }
-    if PARENTS < n {
-        return at;
-    }
-    let mut waits = at;
-    let mut u = 0;
-    while u < n {
-        waits = put_entry(out, waits, row, u);
-        u += 1;
-    }
-    waits
-}
+use lending::limits::PARENTS;
+use lending::limits::ROOM;
+use lending::printing;
+use lending::rest;
 
 // Prints what a call for a table answered, and what it left in the row.
 fn put_table(said: Verdict, n: usize, row: &[u64], out: &mut [u8], at: usize) -> usize
@@ -53,7 +20,7 @@ fn put_table(said: Verdict, n: usize, row: &[u64], out: &mut [u8], at: usize) ->
             if PARENTS < n {
                 return told;
             }
-            let listed = put_entries(out, told, row, n);
+            let listed = printing::put_entries(out, told, row, n);
             rest::put(out, listed, rest::is_kept_wide(row, n * Memory::ENTRY))
         }
         Verdict::Refused(refusal) => {

@@ -6,11 +6,11 @@ ghost use Rattle.probe.specs.Input.{headIn, HeadRead, rowRead};
 ghost use Rattle.probe.specs.Limits.{mostRest, overRows, isOver};
 use crate::limits::HEAD;
 use crate::ops;
-use answers::limits::BYTES;
-use answers::limits::LINKS;
-use answers::limits::PARENTS;
-use answers::limits::ROOM;
 use edition::Search;
+use lending::limits::BYTES;
+use lending::limits::LINKS;
+use lending::limits::PARENTS;
+use lending::limits::ROOM;
 
 // The head of a case: its op, how many parents and how much else follow, how much room is lent, and the numbers that the
 // caller states.

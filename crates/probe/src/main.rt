@@ -4,11 +4,11 @@ mod input;
 mod limits;
 mod ops;
 
-use answers::limits::BYTES;
-use answers::limits::LINKS;
-use answers::limits::PARENTS;
 use input::Head;
 use input::Heading;
+use lending::limits::BYTES;
+use lending::limits::LINKS;
+use lending::limits::PARENTS;
 use limits::CASES;
 use limits::OUT;
 

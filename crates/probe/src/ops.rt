@@ -5,14 +5,14 @@ ghost use Prim.Native.Nat.{_≤_};
 ghost use lib.ListN.{length};
 ghost use Rattle.probe.specs.Limits.{isOp, takesBytes};
 use crate::input::Head;
-use answers::blocks;
 use answers::changes;
 use answers::checking;
-use answers::files;
 use answers::maps;
-use answers::reading;
 use answers::tables;
 use edition::Change;
+use filing::blocks;
+use filing::files;
+use filing::reading;
 
 pub const CHECK: u16 = 1;
 
