@@ -1,0 +1,211 @@
+// What the desk programs share: files by name, and what is said on standard error. A function that says why something went
+// wrong answers false, which its caller hands up.
+ghost use mathlib.Core.Path.{_≡_};
+ghost use mathlib.Core.Bool.{false};
+ghost use Prim.Native.Nat.{_+_, _≤_};
+ghost use lib.ListN.{length};
+use edition::Refusal;
+
+// The longest name of a file, and the longest text, in bytes.
+pub struct Desk {
+    pub name: usize,
+}
+
+impl Desk {
+    pub const NAME: usize = 4000;
+
+    pub const TEXT: usize = 131072;
+}
+
+// How many bytes were read, or that the file could not be read.
+pub enum Got {
+    Is(usize),
+    Not,
+}
+
+// Says something on standard error.
+fn say(text: &[u8]) {
+    io::write_all(libc::STDERR_FILENO, text);
+}
+
+// Says a number on standard error.
+fn say_number(n: u64) {
+    io::print_decimal(libc::STDERR_FILENO, n);
+}
+
+// Says how a program is called.
+pub fn usage(text: &[u8]) -> bool
+    ensures { λ r. ⌜ r ≡ false ⌝ }
+{
+    say(b"usage: ");
+    say(text);
+    say(b"\n");
+    false
+}
+
+// Says something about a file: `NAME: TEXT`.
+pub fn complain(name: &[u8], text: &[u8]) -> bool
+    ensures { λ r. ⌜ r ≡ false ⌝ }
+{
+    say(name);
+    say(b": ");
+    say(text);
+    say(b"\n");
+    false
+}
+
+// Says a file's name and a line: `NAME:LINE: `.
+fn say_place(name: &[u8], line: usize) {
+    say(name);
+    say(b":");
+    say_number(line as u64);
+    say(b": ");
+}
+
+// Says what a line should have had: `NAME:LINE: expected TEXT`.
+pub fn expected(name: &[u8], line: usize, text: &[u8]) -> bool
+    ensures { λ r. ⌜ r ≡ false ⌝ }
+{
+    say_place(name, line);
+    say(b"expected ");
+    say(text);
+    say(b"\n");
+    false
+}
+
+// The same for text that ends with a number.
+pub fn expected_number(name: &[u8], line: usize, text: &[u8], n: usize) -> bool
+    ensures { λ r. ⌜ r ≡ false ⌝ }
+{
+    say_place(name, line);
+    say(b"expected ");
+    say(text);
+    say_number(n as u64);
+    say(b"\n");
+    false
+}
+
+// Says `refused N P` and ends the line.
+fn say_refusal(refusal: Refusal) {
+    let why = refusal.why;
+    say(b"refused ");
+    say_number(edition::number(why) as u64);
+    say(b" ");
+    say_number(refusal.place as u64);
+    say(b"\n");
+}
+
+// Says why a file is refused: `NAME: refused N P`.
+pub fn refused(name: &[u8], refusal: Refusal) -> bool
+    ensures { λ r. ⌜ r ≡ false ⌝ }
+{
+    say(name);
+    say(b": ");
+    say_refusal(refusal);
+    false
+}
+
+// Says why a line is refused: `NAME:LINE: refused N P`.
+pub fn refused_at(name: &[u8], line: usize, refusal: Refusal) -> bool
+    ensures { λ r. ⌜ r ≡ false ⌝ }
+{
+    say_place(name, line);
+    say_refusal(refusal);
+    false
+}
+
+// Reads the file, or as much of it as the room holds, and answers how many bytes that is. Where it cannot be opened, that is
+// said.
+pub fn read(name: &[u8], room: &mut [u8]) -> Got
+    ensures { λ r. ⌜ length (now (room .exit)) ≡ length (now (room .entry)) ⌝ }
+{
+    let file = os::open_read(name);
+    if file < 0 {
+        os::fail(name);
+        return Got::Not;
+    }
+    let size = io::read_full(file, room);
+    libc::close(file);
+    Got::Is(size)
+}
+
+// Copies a text into the room from a place on, where it fits, and answers the place behind it.
+fn append(room: &mut [u8], at: usize, text: &[u8]) -> usize {
+    if room.len() < at {
+        return at;
+    }
+    if room.len() - at < text.len() {
+        return at;
+    }
+    let mut i = 0;
+    while i < text.len() {
+        room[at + i] = text[i];
+        i += 1;
+    }
+    at + text.len()
+}
+
+// Writes all of a new file and waits until it is on the disk; where that fails, it is said and the file is removed.
+fn fill_new(file: i32, part: &[u8], bytes: &[u8]) -> bool {
+    if io::write_all(file, bytes) {
+        if libc::fsync(file) == 0 {
+            libc::close(file);
+            return true;
+        }
+    }
+    os::fail(part);
+    libc::close(file);
+    os::unlink(part);
+    false
+}
+
+// Gives the file its name; where that fails, it is said and the file is removed.
+fn name_new(part: &[u8], name: &[u8]) -> bool {
+    if os::rename(part, name) == 0 {
+        return true;
+    }
+    os::fail(name);
+    os::unlink(part);
+    false
+}
+
+// Makes the file `part` of these bytes and gives it its name.
+fn make(part: &[u8], name: &[u8], bytes: &[u8]) -> bool {
+    let file = os::create(part);
+    if file < 0 {
+        os::fail(part);
+        return false;
+    }
+    if fill_new(file, part, bytes) {
+        return name_new(part, name);
+    }
+    false
+}
+
+// Whether there is a file of this name.
+fn is_there(name: &[u8]) -> bool {
+    let file = os::open_read(name);
+    if file < 0 {
+        return false;
+    }
+    libc::close(file);
+    true
+}
+
+// Makes a new file of these bytes and answers whether it did: first under its name with `.part` behind it, then by a rename,
+// so that no file of the name is ever half written. A file that is there stays, and it is said.
+pub fn write_new(name: &[u8], bytes: &[u8]) -> bool {
+    if Desk::NAME < name.len() {
+        return complain(name, b"the name is too long");
+    }
+    if is_there(name) {
+        return complain(name, b"there is a file of this name");
+    }
+    let mut room = [0u8; Desk::NAME + 5];
+    let named = append(&mut room, 0, name);
+    let ended = append(&mut room, named, b".part");
+    if room.len() < ended {
+        return false;
+    }
+    make(&room[0..ended], name, bytes)
+}

@@ -1,0 +1,4 @@
+pub mod Putting
+pub mod Telling
+pub mod Answering
+pub mod Words

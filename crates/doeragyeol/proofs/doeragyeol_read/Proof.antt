@@ -1,0 +1,74 @@
+-- `doeragyeol::doeragyeol_read` meets its contract. Assumes nothing.
+use Rattle.doeragyeol.proofs.Answering.{read-short, read-taken, read-refused}
+use borrow.Author.Needs.{needs}
+use Rattle.doeragyeol.proofs.doeragyeol_read.Statement.{statement}
+use Rattle.doeragyeol.proofs.doeragyeol_read.Tie as tie
+
+no-room-word-requires : tie.Need-no-room-word-requires
+no-room-word-requires c κs = search needs
+
+returns : tie.Need-returns
+returns c = read-short _ _ _ _ _ (c .before .if1 .taken) _ (c .no-room-word .ensures)
+
+read-requires : tie.Need-read-requires
+read-requires c κs = search needs
+
+enum-known-head : tie.Need-enum-known-head
+enum-known-head c = search needs
+
+put-header-requires : tie.Need-put-header-requires
+put-header-requires c κs = search needs
+
+enum-known-why : tie.Need-enum-known-why
+enum-known-why c = search needs
+
+refusal-word-requires : tie.Need-refusal-word-requires
+refusal-word-requires c κs = search needs
+
+same-length : tie.Need-same-length
+same-length c = search needs
+
+same-length-2 : tie.Need-same-length-2
+same-length-2 c = search needs
+
+same-length-3 : tie.Need-same-length-3
+same-length-3 c = search needs
+
+same-length-4 : tie.Need-same-length-4
+same-length-4 c = search needs
+
+returns-2 : tie.Need-returns-2
+returns-2 c = read-taken _ _ _ _ _ (c .before .before .before .before .before .before .before .before .before .before .before .before .before .before .before .before .before .if1 .left) _ (c .before .before .before .before .before .before .before .before .before .before .before .before .before .read .ensures .0) _ _ _ (c .before .before .before .before .before .before .before .before .before .before .before .before .before .read .ensures .1) (c .before .before .before .before .before .before .before .before .before .before .before .before .before .read .ensures .2) (c .before .before .before .before .before .before .before .before .before .before .before .before .before .read .ensures .3) _ (c .before .before .before .before .before .head .given .1) _ (c .before .before .put-header .ensures)
+
+same-length-5 : tie.Need-same-length-5
+same-length-5 c = search needs
+
+same-length-6 : tie.Need-same-length-6
+same-length-6 c = search needs
+
+same-length-7 : tie.Need-same-length-7
+same-length-7 c = search needs
+
+returns-3 : tie.Need-returns-3
+returns-3 c = read-refused _ _ _ _ _ (c .before .before .before .before .before .before .before .before .before .before .before .before .before .before .if1 .left) _ (c .before .before .before .before .before .before .before .before .before .before .read .ensures .0) _ _ _ (c .before .before .before .before .before .before .before .before .before .before .read .ensures .1) (c .before .before .before .before .before .before .before .before .before .before .read .ensures .2) (c .before .before .before .before .before .before .before .before .before .before .read .ensures .3) _ (c .before .before .why .given .1) _ (c .refusal-word .ensures)
+
+pub doeragyeol-read-spec : {M : Type 1} → statement M
+doeragyeol-read-spec =
+    tie.close
+    (tie.spec
+    no-room-word-requires
+    returns
+    read-requires
+    enum-known-head
+    put-header-requires
+    enum-known-why
+    refusal-word-requires
+    same-length
+    same-length-2
+    same-length-3
+    same-length-4
+    returns-2
+    same-length-5
+    same-length-6
+    same-length-7
+    returns-3)

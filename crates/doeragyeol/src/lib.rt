@@ -1,0 +1,233 @@
+// The library for C: six functions over numbers and lent rows. Each answers one word, 0 or the refusal.
+ghost use mathlib.Core.Path.{_≡_};
+ghost use mathlib.Core.List.{[], _∷_};
+ghost use Prim.Native.Nat.{_≤_, min};
+ghost use lib.ListN.{length};
+ghost use Rattle.edition.specs.declared.Verdict.the-variants.{Refused};
+ghost use Rattle.edition.specs.declared.Why.the-variants.{NoRoom};
+ghost use Rattle.edition.specs.Refusals.{refused};
+ghost use Rattle.table.specs.Table.{tableVerdict, tableRow};
+ghost use Rattle.change.specs.Change.{changeVerdict, changed};
+ghost use Rattle.doeragyeol.specs.Word.{placeMost, wordOf, answered};
+ghost use Rattle.doeragyeol.specs.Calls.{lentNet, lentRows, checkSaid, sizesRow, mapSaid, wordsRow, openRow, writeSaid, fileRow, lengthRow, readSaid, rowsLeft, headerRow};
+use archive::Header;
+use archive::ReadAnswer;
+use archive::WriteAnswer;
+use edition::Change;
+use edition::Refusal;
+use edition::Search;
+use edition::Verdict;
+use edition::Why;
+use map::MapAnswer;
+use sound::Checked;
+
+// The word of a call that is not refused.
+const DONE: u32 = 0;
+
+// The largest place that a word holds.
+const PLACE_MOST: u32 = 0xffff;
+
+// How many values the calls answer in a lent row.
+const SIZES: usize = 2;
+
+const TOLD: usize = 2;
+
+const SIZE: usize = 1;
+
+const HEADER: usize = 4;
+
+// A place, as far as a word holds it.
+fn place_part(place: usize) -> u32
+    ensures { λ r. ⌜ r ≡ min place placeMost ⌝ }
+{
+    if place < PLACE_MOST as usize {
+        place as u32
+    } else {
+        PLACE_MOST
+    }
+}
+
+// The word of a refusal.
+fn refusal_word(refusal: Refusal) -> u32
+    ensures { λ r. ⌜ r ≡ wordOf (Refused refusal) ⌝ }
+{
+    let why = refusal.why;
+    let place = place_part(refusal.place);
+    edition::number(why) as u32 * (PLACE_MOST + 1) + place
+}
+
+// The word of 10 at place 0.
+fn no_room_word() -> u32
+    ensures { λ r. ⌜ r ≡ wordOf (refused NoRoom 0) ⌝ }
+{
+    refusal_word(Refusal {
+        why: Why::NoRoom,
+        place: 0,
+    })
+}
+
+// The word of a verdict.
+fn word(said: Verdict) -> u32
+    ensures { λ r. ⌜ r ≡ wordOf said ⌝ }
+{
+    match said {
+        Verdict::Taken => DONE,
+        Verdict::Refused(why) => refusal_word(why),
+    }
+}
+
+// Puts a value at the beginning of a row.
+fn put_one(row: &mut [u64], a: u64)
+    requires { ⌜ 1 ≤ length (now row) ⌝ }
+    ensures { λ _. ⌜ now (row .exit) ≡ answered (a ∷ []) (now (row .entry)) ⌝ }
+{
+    row[0] = a;
+}
+
+// Puts two values at the beginning of a row.
+fn put_two(row: &mut [u64], a: u64, b: u64)
+    requires { ⌜ 2 ≤ length (now row) ⌝ }
+    ensures { λ _. ⌜ now (row .exit) ≡ answered (a ∷ b ∷ []) (now (row .entry)) ⌝ }
+{
+    row[0] = a;
+    row[1] = b;
+}
+
+// Puts what a header says at the beginning of a row.
+fn put_header(row: &mut [u64], head: Header)
+    requires { ⌜ 4 ≤ length (now row) ⌝ }
+    ensures { λ _. ⌜ now (row .exit) ≡ answered (head .nodes ∷ head .links ∷ head .search .root ∷ head .search .depth ∷ []) (now (row .entry)) ⌝ }
+{
+    let search = head.search;
+    row[0] = head.nodes as u64;
+    row[1] = head.links as u64;
+    row[2] = search.root as u64;
+    row[3] = search.depth as u64;
+}
+
+// The check of a network and its tree. `sizes` gets how many nodes and links there are.
+#[no_mangle]
+pub extern "C" fn doeragyeol_check(
+    links: &[u16],
+    parents: &[u16],
+    root: u16,
+    depth: u16,
+    sizes: &mut [u64],
+) -> u32
+    ensures { λ r. ⌜ (r ≡ wordOf (checkSaid (lentNet (now (links .entry)) (now (parents .entry)) root depth) (now (sizes .entry)))) × (now (sizes .exit) ≡ sizesRow (lentNet (now (links .entry)) (now (parents .entry)) root depth) (now (sizes .entry))) ⌝ }
+{
+    if sizes.len() < SIZES {
+        return no_room_word();
+    }
+    match sound::check_network(links, parents, Search { root, depth }) {
+        Checked::Sound(told) => {
+            put_two(sizes, told.nodes as u64, told.links as u64);
+            DONE
+        }
+        Checked::Unsound(why) => refusal_word(why),
+    }
+}
+
+// The table of all entries, into `entries`.
+#[no_mangle]
+pub extern "C" fn doeragyeol_table(
+    links: &[u16],
+    parents: &[u16],
+    root: u16,
+    depth: u16,
+    entries: &mut [u64],
+) -> u32
+    ensures { λ r. ⌜ (r ≡ wordOf (tableVerdict (lentNet (now (links .entry)) (now (parents .entry)) root depth) (now (entries .entry)))) × (now (entries .exit) ≡ tableRow (lentNet (now (links .entry)) (now (parents .entry)) root depth) (now (entries .entry))) ⌝ }
+{
+    word(table::table(links, parents, Search { root, depth }, entries))
+}
+
+// The unprotected map, into `words`. `told` gets how many nodes are unprotected and the lowest of them.
+#[no_mangle]
+pub extern "C" fn doeragyeol_map(
+    links: &[u16],
+    parents: &[u16],
+    root: u16,
+    depth: u16,
+    words: &mut [u64],
+    told: &mut [u64],
+) -> u32
+    ensures { λ r. ⌜ (r ≡ wordOf (mapSaid (lentNet (now (links .entry)) (now (parents .entry)) root depth) (now (words .entry)) (now (told .entry)))) × (now (words .exit) ≡ wordsRow (lentNet (now (links .entry)) (now (parents .entry)) root depth) (now (words .entry)) (now (told .entry))) × (now (told .exit) ≡ openRow (lentNet (now (links .entry)) (now (parents .entry)) root depth) (now (words .entry)) (now (told .entry))) ⌝ }
+{
+    if told.len() < TOLD {
+        return no_room_word();
+    }
+    match map::unprotected_map(links, parents, Search { root, depth }, words) {
+        MapAnswer::Is(counted) => {
+            put_two(told, counted.count as u64, counted.lowest as u64);
+            DONE
+        }
+        MapAnswer::Not(why) => refusal_word(why),
+    }
+}
+
+// The change of one link: its record in `links`, and the entries that it touches in `entries`.
+#[no_mangle]
+pub extern "C" fn doeragyeol_change(
+    links: &mut [u16],
+    parents: &[u16],
+    root: u16,
+    depth: u16,
+    entries: &mut [u64],
+    link: u16,
+    mark: u16,
+    length: u16,
+) -> u32
+    ensures { λ r. ⌜ (r ≡ wordOf (changeVerdict (lentNet (now (links .entry)) (now (parents .entry)) root depth) (now (entries .entry)) (record { link = link; mark = mark; length = length }))) × (now (links .exit) ≡ changed (now (parents .entry)) (record { root = root; depth = depth }) (record { link = link; mark = mark; length = length }) (record { links = now (links .entry); entries = now (entries .entry) }) .links) × (now (entries .exit) ≡ changed (now (parents .entry)) (record { root = root; depth = depth }) (record { link = link; mark = mark; length = length }) (record { links = now (links .entry); entries = now (entries .entry) }) .entries) ⌝ }
+{
+    let change = Change { link, mark, length };
+    word(change::change(links, parents, Search { root, depth }, entries, change))
+}
+
+// The file of a network and depth, into `file`. `size` gets its length.
+#[no_mangle]
+pub extern "C" fn doeragyeol_write(
+    links: &[u16],
+    parents: &[u16],
+    root: u16,
+    depth: u16,
+    file: &mut [u8],
+    size: &mut [u64],
+) -> u32
+    ensures { λ r. ⌜ (r ≡ wordOf (writeSaid (lentNet (now (links .entry)) (now (parents .entry)) root depth) (now (file .entry)) (now (size .entry)))) × (now (file .exit) ≡ fileRow (lentNet (now (links .entry)) (now (parents .entry)) root depth) (now (file .entry)) (now (size .entry))) × (now (size .exit) ≡ lengthRow (lentNet (now (links .entry)) (now (parents .entry)) root depth) (now (file .entry)) (now (size .entry))) ⌝ }
+{
+    if size.len() < SIZE {
+        return no_room_word();
+    }
+    match archive::write(links, parents, Search { root, depth }, file) {
+        WriteAnswer::Is(bytes) => {
+            put_one(size, bytes as u64);
+            DONE
+        }
+        WriteAnswer::Not(why) => refusal_word(why),
+    }
+}
+
+// The rows of links, parents and entries that a file holds. `header` gets how many nodes and links there are, the root and the
+// depth.
+#[no_mangle]
+pub extern "C" fn doeragyeol_read(
+    file: &[u8],
+    links: &mut [u16],
+    parents: &mut [u16],
+    entries: &mut [u64],
+    header: &mut [u64],
+) -> u32
+    ensures { λ r. ⌜ (r ≡ wordOf (readSaid (now (file .entry)) (lentRows (now (links .entry)) (now (parents .entry)) (now (entries .entry))) (now (header .entry)))) × (now (links .exit) ≡ rowsLeft (now (file .entry)) (lentRows (now (links .entry)) (now (parents .entry)) (now (entries .entry))) (now (header .entry)) .links) × (now (parents .exit) ≡ rowsLeft (now (file .entry)) (lentRows (now (links .entry)) (now (parents .entry)) (now (entries .entry))) (now (header .entry)) .parents) × (now (entries .exit) ≡ rowsLeft (now (file .entry)) (lentRows (now (links .entry)) (now (parents .entry)) (now (entries .entry))) (now (header .entry)) .entries) × (now (header .exit) ≡ headerRow (now (file .entry)) (lentRows (now (links .entry)) (now (parents .entry)) (now (entries .entry))) (now (header .entry))) ⌝ }
+{
+    if header.len() < HEADER {
+        return no_room_word();
+    }
+    match archive::read(file, links, parents, entries) {
+        ReadAnswer::Is(head) => {
+            put_header(header, head);
+            DONE
+        }
+        ReadAnswer::Not(why) => refusal_word(why),
+    }
+}

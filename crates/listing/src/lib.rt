@@ -1,0 +1,156 @@
+// Document 01's listing of what a file holds, printed by way of a lent buffer.
+ghost use mathlib.Core.Path.{_≡_};
+ghost use Prim.Native.Nat.{_*_, _≤_, _<_};
+ghost use lib.ListN.{length};
+ghost use Rattle.listing.specs.Listed.{firstLinks};
+ghost use Rattle.edition.specs.Limits.{nodeLimit, entryWidth};
+use archive::Header;
+use edition::Edition;
+use edition::Memory;
+use map::Unprotected;
+
+// Measures of an entry. Its links, and then its costs, stand behind its state.
+const MEASURES: usize = 3;
+
+// Prints a depth behind a space: `whole`, or a number.
+pub fn put_depth(out: &mut [u8], at: usize, depth: u16) -> usize
+    ensures { λ r. ⌜ r ≤ length (now (out .exit)) ⌝ }
+{
+    if depth == Edition::WHOLE {
+        return output::put(out, at, b" whole");
+    }
+    output::put_field(out, at, depth as u64)
+}
+
+// Prints a name and a number.
+pub fn put_named(out: &mut [u8], at: usize, name: &[u8], n: u64) -> usize
+    ensures { λ r. ⌜ r ≤ length (now (out .exit)) ⌝ }
+{
+    let named = output::put(out, at, name);
+    output::put_field(out, named, n)
+}
+
+// Prints the first line: how many nodes and links, the root and the depth.
+fn put_header(out: &mut [u8], at: usize, header: Header) -> usize {
+    let search = header.search;
+    let nodes = put_named(out, at, b"nodes", header.nodes as u64);
+    let links = put_named(out, nodes, b" links", header.links as u64);
+    let root = put_named(out, links, b" root", search.root as u64);
+    let named = output::put(out, root, b" depth");
+    let depth = put_depth(out, named, search.depth);
+    output::put_newline(out, depth)
+}
+
+// Prints the number at a place of the row of entries.
+fn put_number(out: &mut [u8], at: usize, entries: &[u64], place: usize) -> usize {
+    output::put_field(out, at, rows::wide_at(entries, place))
+}
+
+// Prints, for sum, incr and max, the swap link and its cost. The entry's numbers begin at a place of the row.
+fn put_swaps(out: &mut [u8], at: usize, entries: &[u64], from: usize) -> usize
+    requires { ⌜ from ≤ nodeLimit * entryWidth ⌝ }
+    ensures { λ r. ⌜ r ≤ length (now (out .exit)) ⌝ }
+{
+    let mut waits = output::put(out, at, b" swap");
+    let mut i = 1;
+    while i <= MEASURES {
+        let linked = put_number(out, waits, entries, from + i);
+        waits = put_number(out, linked, entries, from + MEASURES + i);
+        i += 1;
+    }
+    output::put_newline(out, waits)
+}
+
+// Prints the state of node x and, where it is a swap, the links and costs.
+fn put_state(out: &mut [u8], at: usize, entries: &[u64], x: usize) -> usize
+    requires { ⌜ x < nodeLimit ⌝ }
+    ensures { λ r. ⌜ r ≤ length (now (out .exit)) ⌝ }
+{
+    let from = x * Memory::ENTRY;
+    let state = rows::wide_at(entries, from);
+    if state == Edition::SWAP {
+        return put_swaps(out, at, entries, from);
+    }
+    if state == Edition::NONE {
+        return output::put(out, at, b" none\n");
+    }
+    output::put(out, at, b" bridge\n")
+}
+
+// Prints the line of node x, which is not the root; nothing where x is over the limit on nodes.
+pub fn put_node(out: &mut [u8], at: usize, x: usize, parents: &[u16], entries: &[u64]) -> usize
+    ensures { λ r. ⌜ r ≤ length (now (out .exit)) ⌝ }
+{
+    if Memory::NODES <= x {
+        return output::flush(out, at);
+    }
+    let named = output::put_number(out, at, x as u64);
+    let linked = output::put_field(out, named, rows::at(parents, x, Edition::NO_LINK) as u64);
+    put_state(out, linked, entries, x)
+}
+
+// Prints the line of node x; the root has none.
+fn put_other(
+    out: &mut [u8],
+    at: usize,
+    root: u16,
+    x: usize,
+    parents: &[u16],
+    entries: &[u64],
+) -> usize {
+    if x == root as usize {
+        return at;
+    }
+    put_node(out, at, x, parents, entries)
+}
+
+// Prints the lines of all nodes but the root, in number order.
+fn put_nodes(out: &mut [u8], at: usize, root: u16, parents: &[u16], entries: &[u64]) -> usize {
+    let mut waits = at;
+    let mut x = 0;
+    while x < parents.len() {
+        waits = put_other(out, waits, root, x, parents, entries);
+        x += 1;
+    }
+    waits
+}
+
+// Prints the last line: how many nodes are unprotected, and the lowest of them.
+fn put_unprotected(out: &mut [u8], at: usize, told: Unprotected) -> usize
+    ensures { λ r. ⌜ r ≤ length (now (out .exit)) ⌝ }
+{
+    let counted = put_named(out, at, b"unprotected", told.count as u64);
+    let lowest = output::put(out, counted, b" lowest");
+    if told.lowest == Edition::NO_NODE {
+        return output::put(out, lowest, b" -\n");
+    }
+    let placed = output::put_field(out, lowest, told.lowest as u64);
+    output::put_newline(out, placed)
+}
+
+// Prints the listing of an accepted file.
+pub fn put_listing(
+    header: Header,
+    parents: &[u16],
+    entries: &[u64],
+    told: Unprotected,
+    out: &mut [u8],
+    at: usize,
+) -> usize
+    ensures { λ r. ⌜ r ≤ length (now (out .exit)) ⌝ }
+{
+    let search = header.search;
+    let headed = put_header(out, at, header);
+    let listed = put_nodes(out, headed, search.root, parents, entries);
+    put_unprotected(out, listed, told)
+}
+
+// The numbers of the first m links: that part of the lent row, no copy; all of it where m is over the limit on links.
+pub fn links_of(links: &[u16], m: usize) -> &[u16]
+    ensures { λ r. ⌜ now r ≡ firstLinks (now (links .entry)) m ⌝ }
+{
+    if Memory::LINKS < m {
+        return links;
+    }
+    rows::first(links, m * Memory::LINK)
+}

@@ -1,0 +1,309 @@
+// swapdot FILE [sum|incr|max]: draws the network of a file for Graphviz, with the swap links of one measure, sum where none is
+// named.
+ghost use Prim.Native.Nat.{_*_, _≤_, _<_};
+ghost use lib.ListN.{length};
+ghost use Rattle.edition.specs.Limits.{nodeLimit};
+use archive::Header;
+use archive::ReadAnswer;
+use desk::Desk;
+use desk::Got;
+use edition::Edition;
+use edition::Memory;
+use edition::Refusal;
+use edition::Search;
+use edition::Why;
+use network::Link;
+
+// Bytes of the longest file.
+const LONGEST: usize = Edition::BLOCKS * Edition::BLOCK_BYTES;
+
+// Bytes of the buffer that what is printed waits in.
+const OUT: usize = 8192;
+
+// Where an entry has the swap link of each measure.
+const SUM: usize = 1;
+
+const INCR: usize = 2;
+
+const MAX: usize = 3;
+
+// Prints the name of a measure.
+fn put_measure(out: &mut [u8], at: usize, measure: usize) -> usize {
+    if measure == SUM {
+        return output::put(out, at, b"sum");
+    }
+    if measure == INCR {
+        return output::put(out, at, b"incr");
+    }
+    output::put(out, at, b"max")
+}
+
+// Prints the first lines: the title with the root, the depth and the measure.
+fn put_title(out: &mut [u8], at: usize, search: Search, measure: usize) -> usize {
+    let opened = output::put(out, at, b"graph swaps {\n    label = \"root");
+    let root = output::put_field(out, opened, search.root as u64);
+    let named = output::put(out, root, b", depth");
+    let depth = listing::put_depth(out, named, search.depth);
+    let by = output::put(out, depth, b", swap links by ");
+    let told = put_measure(out, by, measure);
+    output::put(out, told, b"\";\n    node [shape = circle];\n")
+}
+
+// The number at a place of the entry of node x.
+fn entry_at(entries: &[u64], x: usize, place: usize) -> u64
+    requires { ⌜ (x < nodeLimit) × (place ≤ 3) ⌝ }
+{
+    rows::wide_at(entries, x * Memory::ENTRY + place)
+}
+
+// Prints what is said of a node behind its number: its swap link, or that it has none.
+fn put_state(out: &mut [u8], at: usize, entries: &[u64], x: usize, measure: usize) -> usize
+    requires { ⌜ (x < nodeLimit) × (measure ≤ 3) ⌝ }
+{
+    let state = entry_at(entries, x, 0);
+    if state == Edition::ROOT {
+        return output::put(out, at, b"\\nroot\", shape = doublecircle];\n");
+    }
+    if state == Edition::SWAP {
+        let named = output::put(out, at, b"\\nswap");
+        let linked = output::put_field(out, named, entry_at(entries, x, measure));
+        return output::put(out, linked, b"\"];\n");
+    }
+    if state == Edition::NONE {
+        return output::put(
+            out,
+            at,
+            b"\\nnone\", style = filled, fillcolor = orange];\n",
+        );
+    }
+    output::put(out, at, b"\\nbridge\", style = filled, fillcolor = red];\n")
+}
+
+// Prints the line of node x. One without a swap link, which is unprotected, is filled.
+fn put_node(out: &mut [u8], at: usize, entries: &[u64], x: usize, measure: usize) -> usize {
+    if Memory::NODES <= x {
+        return at;
+    }
+    if MAX < measure {
+        return at;
+    }
+    let begun = output::put(out, at, b"    ");
+    let named = output::put_number(out, begun, x as u64);
+    let labelled = output::put(out, named, b" [label = \"");
+    let told = output::put_number(out, labelled, x as u64);
+    put_state(out, told, entries, x, measure)
+}
+
+// Prints the lines of all nodes.
+fn put_nodes(out: &mut [u8], at: usize, entries: &[u64], n: usize, measure: usize) -> usize {
+    let mut waits = at;
+    let mut x = 0;
+    while x < n {
+        waits = put_node(out, waits, entries, x, measure);
+        x += 1;
+    }
+    waits
+}
+
+// Whether link e is the parent link of a node.
+fn is_tree(parents: &[u16], e: usize) -> bool {
+    let mut u = 0;
+    while u < parents.len() {
+        if rows::at(parents, u, Edition::NO_LINK) as usize == e {
+            return true;
+        }
+        u += 1;
+    }
+    false
+}
+
+// Whether link e is the swap link of node x.
+fn is_swap_of(entries: &[u64], x: usize, e: usize, measure: usize) -> bool {
+    if Memory::NODES <= x {
+        return false;
+    }
+    if MAX < measure {
+        return false;
+    }
+    if entry_at(entries, x, 0) != Edition::SWAP {
+        return false;
+    }
+    entry_at(entries, x, measure) == e as u64
+}
+
+// Whether link e is the swap link of a node.
+fn is_swap(entries: &[u64], n: usize, e: usize, measure: usize) -> bool {
+    let mut x = 0;
+    while x < n {
+        if is_swap_of(entries, x, e, measure) {
+            return true;
+        }
+        x += 1;
+    }
+    false
+}
+
+// Prints how a link is drawn: a tree link thick, a withdrawn one dotted, a swap link blue, any other thin and grey.
+fn put_style(
+    out: &mut [u8],
+    at: usize,
+    link: Link,
+    parents: &[u16],
+    entries: &[u64],
+    e: usize,
+    measure: usize,
+) -> usize {
+    if !network::in_service(link) {
+        return output::put(out, at, b"style = dotted");
+    }
+    if is_tree(parents, e) {
+        return output::put(out, at, b"penwidth = 3");
+    }
+    if is_swap(entries, parents.len(), e, measure) {
+        return output::put(out, at, b"color = blue");
+    }
+    output::put(out, at, b"color = grey")
+}
+
+// Prints the ends of a link and the begin of its label.
+fn put_ends(out: &mut [u8], at: usize, link: Link) -> usize {
+    let begun = output::put(out, at, b"    ");
+    let first = output::put_number(out, begun, link.first as u64);
+    let joined = output::put(out, first, b" -- ");
+    let second = output::put_number(out, joined, link.second as u64);
+    output::put(out, second, b" [label = \"")
+}
+
+// Prints the number of a link and its length, and ends the label.
+fn put_label(out: &mut [u8], at: usize, link: Link, e: usize) -> usize {
+    let number = output::put_number(out, at, e as u64);
+    let colon = output::put(out, number, b":");
+    let length = output::put_field(out, colon, link.length as u64);
+    output::put(out, length, b"\", ")
+}
+
+// Prints the line of link e: its ends, its number and length, and how it is drawn.
+fn put_link(
+    out: &mut [u8],
+    at: usize,
+    links: &[u16],
+    parents: &[u16],
+    entries: &[u64],
+    e: usize,
+    measure: usize,
+) -> usize {
+    let link = network::link_at(links, e);
+    let ends = put_ends(out, at, link);
+    let labelled = put_label(out, ends, link, e);
+    let drawn = put_style(out, labelled, link, parents, entries, e, measure);
+    output::put(out, drawn, b"];\n")
+}
+
+// Prints the lines of the first m links.
+fn put_links(
+    out: &mut [u8],
+    at: usize,
+    links: &[u16],
+    parents: &[u16],
+    entries: &[u64],
+    m: usize,
+    measure: usize,
+) -> usize {
+    let mut waits = at;
+    let mut e = 0;
+    while e < m {
+        waits = put_link(out, waits, links, parents, entries, e, measure);
+        e += 1;
+    }
+    waits
+}
+
+// Draws an accepted file.
+fn draw(header: Header, links: &[u16], parents: &[u16], entries: &[u64], measure: usize) {
+    let mut out = [0u8; OUT];
+    let held = rows::first(parents, header.nodes);
+    let titled = put_title(&mut out, 0, header.search, measure);
+    let nodes = put_nodes(&mut out, titled, entries, header.nodes, measure);
+    let drawn = put_links(&mut out, nodes, links, held, entries, header.links, measure);
+    let ended = output::put(&mut out, drawn, b"}\n");
+    output::flush(&out, ended);
+}
+
+// Draws the file in the first bytes of a row, or says why it is refused.
+fn draw_file(name: &[u8], file: &[u8], measure: usize) -> bool {
+    let mut links = [0u16; Memory::LINKS * Memory::LINK];
+    let mut parents = [0u16; Memory::NODES];
+    let mut entries = [0u64; Memory::NODES * Memory::ENTRY];
+    match archive::read(file, &mut links, &mut parents, &mut entries) {
+        ReadAnswer::Is(header) => {
+            draw(header, &links, &parents, &entries, measure);
+            true
+        }
+        ReadAnswer::Not(refusal) => desk::refused(name, refusal),
+    }
+}
+
+// The same for the first bytes of a row.
+fn draw_bytes(name: &[u8], row: &[u8], size: usize, measure: usize) -> bool {
+    if LONGEST < size {
+        return desk::refused(
+            name,
+            Refusal {
+                why: Why::BadLength,
+                place: 0,
+            },
+        );
+    }
+    if row.len() < size {
+        return false;
+    }
+    draw_file(name, &row[0..size], measure)
+}
+
+// Draws the file of a name.
+fn run(name: &[u8], measure: usize) -> bool {
+    let mut row = [0u8; LONGEST + 1];
+    match desk::read(name, &mut row) {
+        Got::Is(size) => draw_bytes(name, &row, size, measure),
+        Got::Not => false,
+    }
+}
+
+// The measure that a word names; 0 where it names none.
+fn measure_of(word: &[u8]) -> usize {
+    if text::is_word(word, b"sum") {
+        return SUM;
+    }
+    if text::is_word(word, b"incr") {
+        return INCR;
+    }
+    if text::is_word(word, b"max") {
+        return MAX;
+    }
+    0
+}
+
+// Draws the file of a name by the measure of a word.
+fn run_by(name: &[u8], word: &[u8]) -> bool {
+    let measure = measure_of(word);
+    if measure == 0 {
+        return desk::complain(word, b"expected `sum`, `incr` or `max`");
+    }
+    run(name, measure)
+}
+
+fn main() {
+    let mut first = [0u8; Desk::NAME];
+    let mut second = [0u8; Desk::NAME];
+    let name = os::arg(1, &mut first);
+    let word = os::arg(2, &mut second);
+    if os::arg_count() == 2 {
+        run(&first[..name], SUM);
+        return;
+    }
+    if os::arg_count() == 3 {
+        run_by(&first[..name], &second[..word]);
+        return;
+    }
+    desk::usage(b"swapdot FILE [sum|incr|max]");
+}

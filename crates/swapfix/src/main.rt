@@ -1,0 +1,340 @@
+// swapfix FILE CORRECTIONS NEW: makes the file NEW, which is FILE with the corrections in it, each a line `LINK up|down LENGTH`,
+// and lists the entries that changed, old and new. All or nothing: the first correction that is refused is said, and there is
+// no file NEW then.
+ghost use Prim.Native.Nat.{_*_, _≤_, _<_};
+ghost use lib.ListN.{length};
+ghost use Rattle.edition.specs.Limits.{nodeLimit};
+ghost use Rattle.text.specs.Words.{mostNumber};
+use archive::Header;
+use archive::ReadAnswer;
+use archive::WriteAnswer;
+use desk::Desk;
+use desk::Got;
+use edition::Change;
+use edition::Edition;
+use edition::Memory;
+use edition::Refusal;
+use edition::Search;
+use edition::Verdict;
+use edition::Why;
+use text::Line;
+use text::Word;
+
+// Bytes of the longest file.
+const LONGEST: usize = Edition::BLOCKS * Edition::BLOCK_BYTES;
+
+// Bytes of the buffer that what is printed waits in.
+const OUT: usize = 8192;
+
+// The service mark that a word names.
+fn mark_of(word: u32) -> u16 {
+    if word == Word::UP {
+        return Edition::SERVED;
+    }
+    Edition::WITHDRAWN
+}
+
+// Whether a word says `up` or `down`.
+fn is_service(word: u32) -> bool {
+    if word == Word::UP {
+        return true;
+    }
+    word == Word::DOWN
+}
+
+// The change that a line asks for.
+fn change_of(line: Line) -> Change
+    requires { ⌜ (line .kind ≤ mostNumber) × (line .b ≤ mostNumber) ⌝ }
+{
+    Change {
+        link: line.kind as u16,
+        mark: mark_of(line.a),
+        length: line.b as u16,
+    }
+}
+
+// Makes the change that a line asks for; where it is refused, that is said with the line's number.
+fn fix(
+    name: &[u8],
+    number: usize,
+    line: Line,
+    links: &mut [u16],
+    parents: &[u16],
+    search: Search,
+    entries: &mut [u64],
+) -> bool
+    requires { ⌜ (line .kind ≤ mostNumber) × (line .b ≤ mostNumber) ⌝ }
+{
+    match change::change(links, parents, search, entries, change_of(line)) {
+        Verdict::Taken => true,
+        Verdict::Refused(refusal) => desk::refused_at(name, number, refusal),
+    }
+}
+
+// Takes a line; one without words asks for nothing. What a line lacks is said.
+fn take_line(
+    name: &[u8],
+    number: usize,
+    line: Line,
+    links: &mut [u16],
+    parents: &[u16],
+    search: Search,
+    entries: &mut [u64],
+) -> bool {
+    if line.kind == Word::NONE {
+        return true;
+    }
+    if Word::MOST < line.kind {
+        return desk::expected(name, number, b"the number of a link");
+    }
+    if !is_service(line.a) {
+        return desk::expected(name, number, b"`up` or `down`");
+    }
+    if Word::MOST < line.b {
+        return desk::expected_number(name, number, b"a length up to ", Word::MOST as usize);
+    }
+    if line.c != Word::NONE {
+        return desk::expected(name, number, b"the end of the line");
+    }
+    fix(name, number, line, links, parents, search, entries)
+}
+
+// Takes the lines one after the other, to the first that is refused, and answers whether none was.
+fn take_lines(
+    name: &[u8],
+    text: &[u8],
+    links: &mut [u16],
+    parents: &[u16],
+    search: Search,
+    entries: &mut [u64],
+) -> bool {
+    if Desk::TEXT < text.len() {
+        return desk::complain(name, b"the text is too long");
+    }
+    let mut at = 0;
+    while at < text.len() {
+        let end = text::line_end(text, at);
+        let line = text::line_of(text, at, end);
+        let number = text::line_number(text, at);
+        if !take_line(name, number, line, links, parents, search, entries) {
+            return false;
+        }
+        at = end + 1;
+    }
+    true
+}
+
+// Whether two rows of entries have the same entry of node x.
+fn is_same(old: &[u64], new: &[u64], x: usize) -> bool
+    requires { ⌜ x < nodeLimit ⌝ }
+{
+    let mut i = 0;
+    while i < Memory::ENTRY {
+        let place = x * Memory::ENTRY + i;
+        if rows::wide_at(old, place) != rows::wide_at(new, place) {
+            return false;
+        }
+        i += 1;
+    }
+    true
+}
+
+// Prints the old and the new line of node x, where they differ.
+fn put_changed(
+    out: &mut [u8],
+    at: usize,
+    x: usize,
+    parents: &[u16],
+    old: &[u64],
+    new: &[u64],
+) -> usize {
+    if Memory::NODES <= x {
+        return at;
+    }
+    if is_same(old, new, x) {
+        return at;
+    }
+    let before = output::put(out, at, b"old ");
+    let told = listing::put_node(out, before, x, parents, old);
+    let after = output::put(out, told, b"new ");
+    listing::put_node(out, after, x, parents, new)
+}
+
+// Prints the entries that changed.
+fn put_all(out: &mut [u8], parents: &[u16], old: &[u64], new: &[u64]) -> usize {
+    let mut waits = 0;
+    let mut x = 0;
+    while x < parents.len() {
+        waits = put_changed(out, waits, x, parents, old, new);
+        x += 1;
+    }
+    waits
+}
+
+// Lists the entries that changed.
+fn list(parents: &[u16], old: &[u64], new: &[u64]) {
+    let mut out = [0u8; OUT];
+    let waits = put_all(&mut out, parents, old, new);
+    output::flush(&out, waits);
+}
+
+// Writes the first bytes of a row to a new file.
+fn keep(name: &[u8], file: &[u8], size: usize) -> bool {
+    if file.len() < size {
+        return false;
+    }
+    desk::write_new(name, &file[0..size])
+}
+
+// Makes the file of the network.
+fn store(to: &[u8], links: &[u16], parents: &[u16], search: Search) -> bool {
+    let mut file = [0u8; LONGEST];
+    match archive::write(links, parents, search, &mut file) {
+        WriteAnswer::Is(size) => keep(to, &file, size),
+        WriteAnswer::Not(refusal) => desk::refused(to, refusal),
+    }
+}
+
+// Makes the corrections in the rows, the file of what they are then, and the list.
+fn correct(
+    by: &[u8],
+    to: &[u8],
+    text: &[u8],
+    links: &mut [u16],
+    parents: &[u16],
+    search: Search,
+    old: &[u64],
+    entries: &mut [u64],
+) -> bool {
+    if !take_lines(by, text, links, parents, search, entries) {
+        return false;
+    }
+    if !store(to, links, parents, search) {
+        return false;
+    }
+    list(parents, old, entries);
+    true
+}
+
+// The same, with as much of the rows as the header says.
+fn correct_part(
+    by: &[u8],
+    to: &[u8],
+    text: &[u8],
+    header: Header,
+    links: &mut [u16],
+    parents: &[u16],
+    old: &[u64],
+    entries: &mut [u64],
+) -> bool {
+    let m = header.links;
+    if Memory::LINKS < m {
+        return false;
+    }
+    if links.len() < m * Memory::LINK {
+        return false;
+    }
+    correct(
+        by,
+        to,
+        text,
+        &mut links[0..m * Memory::LINK],
+        rows::first(parents, header.nodes),
+        header.search,
+        old,
+        entries,
+    )
+}
+
+// Reads the file once more, for its entries as they were, and corrects what is read.
+fn correct_file(from: &[u8], by: &[u8], to: &[u8], file: &[u8], text: &[u8], old: &[u64]) -> bool {
+    let mut links = [0u16; Memory::LINKS * Memory::LINK];
+    let mut parents = [0u16; Memory::NODES];
+    let mut entries = [0u64; Memory::NODES * Memory::ENTRY];
+    match archive::read(file, &mut links, &mut parents, &mut entries) {
+        ReadAnswer::Is(header) => {
+            correct_part(
+                by,
+                to,
+                text,
+                header,
+                &mut links,
+                &parents,
+                old,
+                &mut entries,
+            )
+        }
+        ReadAnswer::Not(refusal) => desk::refused(from, refusal),
+    }
+}
+
+// Reads the file's entries as they are, and corrects it.
+fn correct_old(from: &[u8], by: &[u8], to: &[u8], file: &[u8], text: &[u8]) -> bool {
+    let mut links = [0u16; Memory::LINKS * Memory::LINK];
+    let mut parents = [0u16; Memory::NODES];
+    let mut old = [0u64; Memory::NODES * Memory::ENTRY];
+    match archive::read(file, &mut links, &mut parents, &mut old) {
+        ReadAnswer::Is(_) => correct_file(from, by, to, file, text, &old),
+        ReadAnswer::Not(refusal) => desk::refused(from, refusal),
+    }
+}
+
+// Corrects the file in the first bytes of a row by the text in the first bytes of another.
+fn correct_bytes(
+    from: &[u8],
+    by: &[u8],
+    to: &[u8],
+    file: &[u8],
+    size: usize,
+    text: &[u8],
+    long: usize,
+) -> bool {
+    if LONGEST < size {
+        return desk::refused(
+            from,
+            Refusal {
+                why: Why::BadLength,
+                place: 0,
+            },
+        );
+    }
+    if file.len() < size {
+        return false;
+    }
+    if text.len() < long {
+        return false;
+    }
+    correct_old(from, by, to, &file[0..size], &text[0..long])
+}
+
+// Reads the corrections, and makes them in the file.
+fn with_text(from: &[u8], by: &[u8], to: &[u8], file: &[u8], size: usize) -> bool {
+    let mut text = [0u8; Desk::TEXT + 1];
+    match desk::read(by, &mut text) {
+        Got::Is(long) => correct_bytes(from, by, to, file, size, &text, long),
+        Got::Not => false,
+    }
+}
+
+// Makes the file `to` of the file `from`, corrected by the text in the file `by`.
+fn run(from: &[u8], by: &[u8], to: &[u8]) -> bool {
+    let mut file = [0u8; LONGEST + 1];
+    match desk::read(from, &mut file) {
+        Got::Is(size) => with_text(from, by, to, &file, size),
+        Got::Not => false,
+    }
+}
+
+fn main() {
+    if os::arg_count() != 4 {
+        desk::usage(b"swapfix FILE CORRECTIONS NEW");
+        return;
+    }
+    let mut first = [0u8; Desk::NAME];
+    let mut second = [0u8; Desk::NAME];
+    let mut third = [0u8; Desk::NAME];
+    let from = os::arg(1, &mut first);
+    let by = os::arg(2, &mut second);
+    let to = os::arg(3, &mut third);
+    run(&first[..from], &second[..by], &third[..to]);
+}

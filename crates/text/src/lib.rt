@@ -1,0 +1,287 @@
+// Plain text by lines and words: what the desk programs read. Words stand between blanks; `#` begins a comment, which goes to
+// the end of the line. A word is answered as one number: itself where it is a number up to `Word::MOST`, else one of the marks.
+ghost use Prim.Native.Nat.{_+_, _≤_, _<_};
+ghost use lib.ListN.{length};
+ghost use Rattle.text.specs.Words.{noWord};
+
+// A word of a line: its value, and where it ends.
+pub struct Word {
+    pub value: u32,
+    pub to: usize,
+}
+
+impl Word {
+    // The largest number.
+    pub const MOST: u32 = 0xffff;
+
+    // The names.
+    pub const ROOT: u32 = Word::MOST + 1;
+
+    pub const DEPTH: u32 = Word::MOST + 2;
+
+    pub const LINK: u32 = Word::MOST + 3;
+
+    pub const NODE: u32 = Word::MOST + 4;
+
+    pub const WHOLE: u32 = Word::MOST + 5;
+
+    pub const UP: u32 = Word::MOST + 6;
+
+    pub const DOWN: u32 = Word::MOST + 7;
+
+    // Neither a number nor a name.
+    pub const OTHER: u32 = Word::MOST + 8;
+
+    // No word: the line has ended.
+    pub const NONE: u32 = Word::MOST + 9;
+}
+
+// The words of a line, in their order; `rest` is the one behind the longest line that has a meaning.
+pub struct Line {
+    pub kind: u32,
+    pub a: u32,
+    pub b: u32,
+    pub c: u32,
+    pub d: u32,
+    pub e: u32,
+    pub rest: u32,
+}
+
+// The byte at a place; the end of a line past the text.
+fn byte_at(text: &[u8], i: usize) -> u8 {
+    if i < text.len() { text[i] } else { b'\n' }
+}
+
+// Where the line that holds a place ends: at the next end of line, or at the text's end.
+pub fn line_end(text: &[u8], at: usize) -> usize
+    ensures { λ r. ⌜ (at ≤ r) × (r ≤ at + length (now (text .entry))) ⌝ }
+{
+    let mut i = at;
+    while i < text.len() {
+        if byte_at(text, i) == b'\n' {
+            return i;
+        }
+        i += 1;
+    }
+    i
+}
+
+// Whether a byte stands between words.
+fn is_blank(byte: u8) -> bool {
+    if byte == b' ' {
+        return true;
+    }
+    if byte == b'\t' {
+        return true;
+    }
+    byte == b'\r'
+}
+
+// Whether a byte ends a word: a blank, or the begin of a comment.
+fn is_past(byte: u8) -> bool {
+    if byte == b'#' {
+        return true;
+    }
+    is_blank(byte)
+}
+
+// Where the next word begins, or the line's end where there is none.
+fn word_from(text: &[u8], at: usize, end: usize) -> usize {
+    let mut i = at;
+    while i < end {
+        if !is_blank(byte_at(text, i)) {
+            return i;
+        }
+        i += 1;
+    }
+    end
+}
+
+// Where the word that begins at a place ends.
+fn word_to(text: &[u8], from: usize, end: usize) -> usize {
+    let mut i = from;
+    while i < end {
+        if is_past(byte_at(text, i)) {
+            return i;
+        }
+        i += 1;
+    }
+    end
+}
+
+// A number with one more digit; no number where that is none or the number gets too large.
+fn with_digit(value: u32, byte: u8) -> u32
+    ensures { λ r. ⌜ r ≤ noWord ⌝ }
+{
+    if Word::MOST < value {
+        return Word::OTHER;
+    }
+    if byte < b'0' {
+        return Word::OTHER;
+    }
+    if b'9' < byte {
+        return Word::OTHER;
+    }
+    let longer = value * 10 + (byte - b'0') as u32;
+    if Word::MOST < longer {
+        return Word::OTHER;
+    }
+    longer
+}
+
+// The number that the bytes from one place to before another spell.
+fn number_of(text: &[u8], from: usize, to: usize) -> u32
+    ensures { λ r. ⌜ r ≤ noWord ⌝ }
+{
+    let mut value = 0;
+    let mut i = from;
+    while i < to {
+        value = with_digit(value, byte_at(text, i));
+        i += 1;
+    }
+    value
+}
+
+// Whether the bytes from a place on begin with the name.
+fn begins(text: &[u8], from: usize, name: &[u8]) -> bool {
+    if text.len() < from {
+        return false;
+    }
+    if text.len() - from < name.len() {
+        return false;
+    }
+    let mut i = 0;
+    while i < name.len() {
+        if byte_at(text, from + i) != name[i] {
+            return false;
+        }
+        i += 1;
+    }
+    true
+}
+
+// Whether the bytes from one place to before another are the name.
+fn is_named(text: &[u8], from: usize, to: usize, name: &[u8]) -> bool {
+    if to < from {
+        return false;
+    }
+    if to - from != name.len() {
+        return false;
+    }
+    begins(text, from, name)
+}
+
+// The mark of the name among those that begin a line.
+fn kind_of(text: &[u8], from: usize, to: usize) -> u32
+    ensures { λ r. ⌜ r ≤ noWord ⌝ }
+{
+    if is_named(text, from, to, b"link") {
+        return Word::LINK;
+    }
+    if is_named(text, from, to, b"node") {
+        return Word::NODE;
+    }
+    if is_named(text, from, to, b"root") {
+        return Word::ROOT;
+    }
+    if is_named(text, from, to, b"depth") {
+        return Word::DEPTH;
+    }
+    Word::OTHER
+}
+
+// The mark of the name, among all of them.
+fn name_of(text: &[u8], from: usize, to: usize) -> u32
+    ensures { λ r. ⌜ r ≤ noWord ⌝ }
+{
+    if is_named(text, from, to, b"up") {
+        return Word::UP;
+    }
+    if is_named(text, from, to, b"down") {
+        return Word::DOWN;
+    }
+    if is_named(text, from, to, b"whole") {
+        return Word::WHOLE;
+    }
+    kind_of(text, from, to)
+}
+
+// The value of the word from one place to before another.
+fn value_of(text: &[u8], from: usize, to: usize) -> u32
+    ensures { λ r. ⌜ r ≤ noWord ⌝ }
+{
+    if to <= from {
+        return Word::NONE;
+    }
+    let number = number_of(text, from, to);
+    if number <= Word::MOST {
+        return number;
+    }
+    name_of(text, from, to)
+}
+
+// The next word of a line from a place on.
+fn next(text: &[u8], at: usize, end: usize) -> Word
+    ensures { λ r. ⌜ r .value ≤ noWord ⌝ }
+{
+    let from = word_from(text, at, end);
+    let to = word_to(text, from, end);
+    Word {
+        value: value_of(text, from, to),
+        to,
+    }
+}
+
+// The words of the line from a place to its end.
+pub fn line_of(text: &[u8], at: usize, end: usize) -> Line
+    ensures { λ r. ⌜ (r .kind ≤ noWord) × (r .rest ≤ noWord) ⌝ }
+{
+    let kind = next(text, at, end);
+    let a = next(text, kind.to, end);
+    let b = next(text, a.to, end);
+    let c = next(text, b.to, end);
+    let d = next(text, c.to, end);
+    let e = next(text, d.to, end);
+    let rest = next(text, e.to, end);
+    Line {
+        kind: kind.value,
+        a: a.value,
+        b: b.value,
+        c: c.value,
+        d: d.value,
+        e: e.value,
+        rest: rest.value,
+    }
+}
+
+// How many lines end before place i + 1, of which so many end before place i.
+fn counted(text: &[u8], lines: usize, i: usize) -> usize
+    requires { ⌜ (lines ≤ i) × (i < length (now text)) ⌝ }
+    ensures { λ r. ⌜ r ≤ i + 1 ⌝ }
+{
+    if byte_at(text, i) == b'\n' {
+        return lines + 1;
+    }
+    lines
+}
+
+// The number of the line that holds a place, from 1 on.
+pub fn line_number(text: &[u8], at: usize) -> usize
+    ensures { λ r. ⌜ r ≤ length (now (text .entry)) + 1 ⌝ }
+{
+    let mut line = 0;
+    let mut i = 0;
+    while i < text.len() {
+        if at <= i {
+            return line + 1;
+        }
+        line = counted(text, line, i);
+        i += 1;
+    }
+    line + 1
+}
+
+// Whether two words are the same.
+pub fn is_word(word: &[u8], name: &[u8]) -> bool {
+    is_named(word, 0, word.len(), name)
+}

@@ -1,0 +1,243 @@
+//! Safe calls of the proved library: slices for its rows, a `Result` for its word. A slice is what the library asks of a
+//! row: not null, aligned, and as long as it says; and a `&mut` one overlaps no other.
+//!
+//! The library is found by `-L`: `RUSTFLAGS="-L native=DIRECTORY" cargo build`, where `rt staticlib doeragyeol` wrote
+//! `libdoeragyeol.a` to the directory `target/staticlib`.
+
+pub mod raw;
+
+/// The most nodes and links there are.
+pub const NODES: usize = 512;
+pub const LINKS: usize = 2048;
+
+/// Numbers of a link's record and of an entry's.
+pub const LINK_NUMBERS: usize = 4;
+pub const ENTRY_NUMBERS: usize = 7;
+
+/// Words of the unprotected map.
+pub const MAP_WORDS: usize = 8;
+
+/// Bytes of the longest file.
+pub const FILE_BYTES: usize = 32256;
+
+/// The depth that is the whole search, and no link and no node where one is named.
+pub const WHOLE: u16 = 65535;
+pub const NO_LINK: u16 = 65535;
+pub const NO_NODE: u16 = 65535;
+
+/// The service marks of a link.
+pub const WITHDRAWN: u16 = 0;
+pub const SERVED: u16 = 1;
+
+/// The states of an entry.
+pub const STATE_ROOT: u64 = 0;
+pub const STATE_SWAP: u64 = 1;
+pub const STATE_NONE: u64 = 2;
+pub const STATE_BRIDGE: u64 = 3;
+
+/// A refusal: its number and its place.
+#[derive(Clone, Copy, PartialEq, Eq, Debug)]
+pub struct Refusal {
+    pub number: u32,
+    pub place: u32,
+}
+
+/// The numbers that a caller names beside the rows of a network.
+#[derive(Clone, Copy, PartialEq, Eq, Debug)]
+pub struct Search {
+    pub root: u16,
+    pub depth: u16,
+}
+
+/// How large a network is.
+#[derive(Clone, Copy, PartialEq, Eq, Debug)]
+pub struct Sizes {
+    pub nodes: usize,
+    pub links: usize,
+}
+
+/// How many nodes are unprotected, and the lowest of them or `NO_NODE`.
+#[derive(Clone, Copy, PartialEq, Eq, Debug)]
+pub struct Unprotected {
+    pub count: u32,
+    pub lowest: u16,
+}
+
+/// A change of one link: its number, and the service mark and length that it gets.
+#[derive(Clone, Copy, PartialEq, Eq, Debug)]
+pub struct Change {
+    pub link: u16,
+    pub mark: u16,
+    pub length: u16,
+}
+
+/// What a file's header says.
+#[derive(Clone, Copy, PartialEq, Eq, Debug)]
+pub struct Header {
+    pub nodes: usize,
+    pub links: usize,
+    pub search: Search,
+}
+
+/// What a word says.
+pub fn said(word: u32) -> Result<(), Refusal> {
+    match word {
+        0 => Ok(()),
+        _ => Err(Refusal {
+            number: word >> 16,
+            place: word & 65535,
+        }),
+    }
+}
+
+/// Checks a network and its tree.
+pub fn check(links: &[u16], parents: &[u16], search: Search) -> Result<Sizes, Refusal> {
+    let mut sizes = [0; 2];
+    said(unsafe {
+        raw::doeragyeol_check(
+            links.as_ptr(),
+            links.len(),
+            parents.as_ptr(),
+            parents.len(),
+            search.root,
+            search.depth,
+            sizes.as_mut_ptr(),
+            sizes.len(),
+        )
+    })?;
+    Ok(Sizes {
+        nodes: sizes[0] as usize,
+        links: sizes[1] as usize,
+    })
+}
+
+/// The table of a network, at the beginning of `entries`.
+pub fn table(
+    links: &[u16],
+    parents: &[u16],
+    search: Search,
+    entries: &mut [u64],
+) -> Result<(), Refusal> {
+    said(unsafe {
+        raw::doeragyeol_table(
+            links.as_ptr(),
+            links.len(),
+            parents.as_ptr(),
+            parents.len(),
+            search.root,
+            search.depth,
+            entries.as_mut_ptr(),
+            entries.len(),
+        )
+    })
+}
+
+/// The unprotected map of a network, at the beginning of `words`.
+pub fn map(
+    links: &[u16],
+    parents: &[u16],
+    search: Search,
+    words: &mut [u64],
+) -> Result<Unprotected, Refusal> {
+    let mut told = [0; 2];
+    said(unsafe {
+        raw::doeragyeol_map(
+            links.as_ptr(),
+            links.len(),
+            parents.as_ptr(),
+            parents.len(),
+            search.root,
+            search.depth,
+            words.as_mut_ptr(),
+            words.len(),
+            told.as_mut_ptr(),
+            told.len(),
+        )
+    })?;
+    Ok(Unprotected {
+        count: told[0] as u32,
+        lowest: told[1] as u16,
+    })
+}
+
+/// The change of one link. A table that was right is right again.
+pub fn change(
+    links: &mut [u16],
+    parents: &[u16],
+    search: Search,
+    entries: &mut [u64],
+    change: Change,
+) -> Result<(), Refusal> {
+    said(unsafe {
+        raw::doeragyeol_change(
+            links.as_mut_ptr(),
+            links.len(),
+            parents.as_ptr(),
+            parents.len(),
+            search.root,
+            search.depth,
+            entries.as_mut_ptr(),
+            entries.len(),
+            change.link,
+            change.mark,
+            change.length,
+        )
+    })
+}
+
+/// The file of a network and depth, at the beginning of `file`, and its length.
+pub fn write(
+    links: &[u16],
+    parents: &[u16],
+    search: Search,
+    file: &mut [u8],
+) -> Result<usize, Refusal> {
+    let mut size = [0; 1];
+    said(unsafe {
+        raw::doeragyeol_write(
+            links.as_ptr(),
+            links.len(),
+            parents.as_ptr(),
+            parents.len(),
+            search.root,
+            search.depth,
+            file.as_mut_ptr(),
+            file.len(),
+            size.as_mut_ptr(),
+            size.len(),
+        )
+    })?;
+    Ok(size[0] as usize)
+}
+
+/// What a file holds, at the beginning of the rows, and what its header says.
+pub fn read(
+    file: &[u8],
+    links: &mut [u16],
+    parents: &mut [u16],
+    entries: &mut [u64],
+) -> Result<Header, Refusal> {
+    let mut header = [0; 4];
+    said(unsafe {
+        raw::doeragyeol_read(
+            file.as_ptr(),
+            file.len(),
+            links.as_mut_ptr(),
+            links.len(),
+            parents.as_mut_ptr(),
+            parents.len(),
+            entries.as_mut_ptr(),
+            entries.len(),
+            header.as_mut_ptr(),
+            header.len(),
+        )
+    })?;
+    Ok(Header {
+        nodes: header[0] as usize,
+        links: header[1] as usize,
+        search: Search {
+            root: header[2] as u16,
+            depth: header[3] as u16,
+        },
+    })
+}

@@ -1,0 +1,182 @@
+//! The Harbour case through the wrappers: read, changed, written.
+
+use doeragyeol::*;
+
+const FILE: &[u8] = include_bytes!("../../../samples/harbour.swap");
+
+/// The network and the table of a file.
+#[derive(Clone, PartialEq, Debug)]
+struct Harbour {
+    links: Vec<u16>,
+    parents: Vec<u16>,
+    search: Search,
+    entries: Vec<u64>,
+}
+
+fn harbour() -> Harbour {
+    let mut links = vec![0; LINKS * LINK_NUMBERS];
+    let mut parents = vec![0; NODES];
+    let mut entries = vec![0; NODES * ENTRY_NUMBERS];
+    let header = read(FILE, &mut links, &mut parents, &mut entries).expect("a sound file");
+    links.truncate(header.links * LINK_NUMBERS);
+    parents.truncate(header.nodes);
+    entries.truncate(header.nodes * ENTRY_NUMBERS);
+    Harbour {
+        links,
+        parents,
+        search: header.search,
+        entries,
+    }
+}
+
+fn changed(h: &mut Harbour, link: u16, mark: u16, length: u16) -> Result<(), Refusal> {
+    let asked = Change { link, mark, length };
+    change(&mut h.links, &h.parents, h.search, &mut h.entries, asked)
+}
+
+fn refused<T>(number: u32, place: u32) -> Result<T, Refusal> {
+    Err(Refusal { number, place })
+}
+
+#[test]
+fn reads() {
+    let h = harbour();
+    let search = Search {
+        root: 0,
+        depth: WHOLE,
+    };
+    assert_eq!(h.search, search);
+    assert_eq!(h.parents, [NO_LINK, 0, 1, 2, 6]);
+    assert_eq!(h.links[..8], [0, 1, 2, SERVED, 1, 2, 3, SERVED]);
+    let rows: Vec<&[u64]> = h.entries.chunks(ENTRY_NUMBERS).collect();
+    let none = NO_LINK as u64;
+    assert_eq!(rows[0], [STATE_ROOT, none, none, none, 0, 0, 0]);
+    assert_eq!(rows[1], [STATE_SWAP, 3, 4, 3, 25, 6, 10]);
+    assert_eq!(rows[4], [STATE_BRIDGE, none, none, none, 0, 0, 0]);
+}
+
+#[test]
+fn checks() {
+    let h = harbour();
+    let sizes = Sizes { nodes: 5, links: 7 };
+    assert_eq!(check(&h.links, &h.parents, h.search), Ok(sizes));
+    let no_node = Search {
+        root: 5,
+        depth: WHOLE,
+    };
+    assert_eq!(check(&h.links, &h.parents, no_node), refused(3, 0));
+    assert_eq!(check(&[], &[], h.search), refused(1, 0));
+}
+
+#[test]
+fn tells_the_table_and_the_map() {
+    let h = harbour();
+    let mut entries = vec![7; h.entries.len() + 1];
+    assert_eq!(table(&h.links, &h.parents, h.search, &mut entries), Ok(()));
+    assert_eq!(entries[..h.entries.len()], h.entries);
+    assert_eq!(entries[h.entries.len()], 7);
+
+    let mut words = [7; MAP_WORDS + 1];
+    let told = Unprotected {
+        count: 1,
+        lowest: 4,
+    };
+    assert_eq!(map(&h.links, &h.parents, h.search, &mut words), Ok(told));
+    assert_eq!(words, [16, 0, 0, 0, 0, 0, 0, 0, 7]);
+}
+
+#[test]
+fn a_refused_change_changes_nothing() {
+    let before = harbour();
+    let mut h = before.clone();
+    assert_eq!(changed(&mut h, 7, SERVED, 1), refused(11, 0));
+    assert_eq!(changed(&mut h, 3, 2, 1), refused(6, 3));
+    assert_eq!(changed(&mut h, 0, WITHDRAWN, 2), refused(12, 0));
+    assert_eq!(changed(&mut h, 3, SERVED, 1), refused(13, 3));
+    assert_eq!(h, before);
+}
+
+#[test]
+fn a_taken_change_leaves_the_right_table() {
+    let mut h = harbour();
+    assert_eq!(changed(&mut h, 3, WITHDRAWN, 6), Ok(()));
+    assert_eq!(h.links[12..16], [0, 2, 6, WITHDRAWN]);
+    assert_eq!(h.entries[ENTRY_NUMBERS + 1], 4);
+    let mut fresh = vec![0; h.entries.len()];
+    assert_eq!(table(&h.links, &h.parents, h.search, &mut fresh), Ok(()));
+    assert_eq!(h.entries, fresh);
+}
+
+#[test]
+fn writes_what_was_read() {
+    let mut h = harbour();
+    let mut file = vec![7; FILE_BYTES];
+    assert_eq!(
+        write(&h.links, &h.parents, h.search, &mut file),
+        Ok(FILE.len())
+    );
+    assert_eq!(&file[..FILE.len()], FILE);
+    assert!(file[FILE.len()..].iter().all(|&byte| byte == 7));
+
+    assert_eq!(changed(&mut h, 3, WITHDRAWN, 6), Ok(()));
+    let length = write(&h.links, &h.parents, h.search, &mut file).expect("a sound network");
+    let (mut links, mut parents, mut entries) = ([0; 28], [0; 5], [0; 35]);
+    let header = read(&file[..length], &mut links, &mut parents, &mut entries);
+    assert_eq!(header.map(|header| header.search), Ok(h.search));
+    assert_eq!((&links[..], &entries[..]), (&h.links[..], &h.entries[..]));
+}
+
+#[test]
+fn a_short_row_is_refused() {
+    let h = harbour();
+    let mut entries = vec![7; h.entries.len() - 1];
+    assert_eq!(
+        table(&h.links, &h.parents, h.search, &mut entries),
+        refused(10, 0)
+    );
+    assert!(entries.iter().all(|&number| number == 7));
+    let mut file = vec![7; FILE.len() - 1];
+    assert_eq!(
+        write(&h.links, &h.parents, h.search, &mut file),
+        refused(10, 0)
+    );
+    assert!(file.iter().all(|&byte| byte == 7));
+}
+
+/// The wrappers lend rows that are long enough, so this asks the library itself. It looks at the row of values first: the
+/// file is empty, which is 20.
+#[test]
+fn a_short_row_of_values_is_refused_first() {
+    let (mut links, mut parents, mut entries) = ([7; 28], [7; 5], [7; 35]);
+    let mut ask = |header: &mut [u64]| {
+        said(unsafe {
+            raw::doeragyeol_read(
+                [].as_ptr(),
+                0,
+                links.as_mut_ptr(),
+                links.len(),
+                parents.as_mut_ptr(),
+                parents.len(),
+                entries.as_mut_ptr(),
+                entries.len(),
+                header.as_mut_ptr(),
+                header.len(),
+            )
+        })
+    };
+    let mut header = [7; 4];
+    assert_eq!(ask(&mut header[..3]), refused(10, 0));
+    assert_eq!(ask(&mut header), refused(20, 0));
+    assert_eq!(header, [7; 4]);
+    assert_eq!((links, parents, entries), ([7; 28], [7; 5], [7; 35]));
+}
+
+#[test]
+fn a_damaged_file_is_refused() {
+    let (mut links, mut parents, mut entries) = ([7; 28], [7; 5], [7; 35]);
+    let mut file = FILE.to_vec();
+    file[600] ^= 1;
+    let said = read(&file, &mut links, &mut parents, &mut entries);
+    assert_eq!(said, refused(21, 1));
+    assert_eq!((links, parents, entries), ([7; 28], [7; 5], [7; 35]));
+}
