@@ -1,8 +1,12 @@
 // Plain text by lines and words: what the desk programs read. Words stand between blanks; `#` begins a comment, which goes to
 // the end of the line. A word is answered as one number: itself where it is a number up to `Word::MOST`, else one of the marks.
-ghost use Prim.Native.Nat.{_+_, _≤_, _<_};
-ghost use lib.ListN.{length};
-ghost use Rattle.text.specs.Words.{noWord};
+ghost use mathlib.Core.Path.{_≡_};
+ghost use mathlib.Core.Bool.{not};
+ghost use Prim.Native.Nat.{_+_, _-_, _≤_, _<_, min};
+ghost use lib.Dec.{eqb};
+ghost use lib.ListN.{length, getD};
+ghost use Rattle.rows.specs.Count.{someTo, sumTo, onlyIf};
+ghost use Rattle.text.specs.Words.{newline, byteAt, isBlank, isPast, lineEnd, wordFrom, wordTo, withDigit, numberFrom, isNamed, kindOf, nameOf, valueOf, nextValue, nextEnd, lineOf, lineNumber};
 
 // A word of a line: its value, and where it ends.
 pub struct Word {
@@ -48,13 +52,15 @@ pub struct Line {
 }
 
 // The byte at a place; the end of a line past the text.
-fn byte_at(text: &[u8], i: usize) -> u8 {
+fn byte_at(text: &[u8], i: usize) -> u8
+    ensures { λ r. ⌜ r ≡ byteAt (now (text .entry)) i ⌝ }
+{
     if i < text.len() { text[i] } else { b'\n' }
 }
 
 // Where the line that holds a place ends: at the next end of line, or at the text's end.
 pub fn line_end(text: &[u8], at: usize) -> usize
-    ensures { λ r. ⌜ (at ≤ r) × (r ≤ at + length (now (text .entry))) ⌝ }
+    ensures { λ r. ⌜ (r ≡ lineEnd (now (text .entry)) at) × (at ≤ r) × (r ≤ at + length (now (text .entry))) ⌝ }
 {
     let mut i = at;
     while i < text.len() {
@@ -67,7 +73,9 @@ pub fn line_end(text: &[u8], at: usize) -> usize
 }
 
 // Whether a byte stands between words.
-fn is_blank(byte: u8) -> bool {
+fn is_blank(byte: u8) -> bool
+    ensures { λ r. ⌜ r ≡ isBlank byte ⌝ }
+{
     if byte == b' ' {
         return true;
     }
@@ -78,7 +86,9 @@ fn is_blank(byte: u8) -> bool {
 }
 
 // Whether a byte ends a word: a blank, or the begin of a comment.
-fn is_past(byte: u8) -> bool {
+fn is_past(byte: u8) -> bool
+    ensures { λ r. ⌜ r ≡ isPast byte ⌝ }
+{
     if byte == b'#' {
         return true;
     }
@@ -86,7 +96,9 @@ fn is_past(byte: u8) -> bool {
 }
 
 // Where the next word begins, or the line's end where there is none.
-fn word_from(text: &[u8], at: usize, end: usize) -> usize {
+fn word_from(text: &[u8], at: usize, end: usize) -> usize
+    ensures { λ r. ⌜ r ≡ wordFrom (now (text .entry)) at end ⌝ }
+{
     let mut i = at;
     while i < end {
         if !is_blank(byte_at(text, i)) {
@@ -94,11 +106,13 @@ fn word_from(text: &[u8], at: usize, end: usize) -> usize {
         }
         i += 1;
     }
-    end
+    i
 }
 
 // Where the word that begins at a place ends.
-fn word_to(text: &[u8], from: usize, end: usize) -> usize {
+fn word_to(text: &[u8], from: usize, end: usize) -> usize
+    ensures { λ r. ⌜ r ≡ wordTo (now (text .entry)) from end ⌝ }
+{
     let mut i = from;
     while i < end {
         if is_past(byte_at(text, i)) {
@@ -106,12 +120,12 @@ fn word_to(text: &[u8], from: usize, end: usize) -> usize {
         }
         i += 1;
     }
-    end
+    i
 }
 
 // A number with one more digit; no number where that is none or the number gets too large.
 fn with_digit(value: u32, byte: u8) -> u32
-    ensures { λ r. ⌜ r ≤ noWord ⌝ }
+    ensures { λ r. ⌜ r ≡ withDigit value byte ⌝ }
 {
     if Word::MOST < value {
         return Word::OTHER;
@@ -131,7 +145,7 @@ fn with_digit(value: u32, byte: u8) -> u32
 
 // The number that the bytes from one place to before another spell.
 fn number_of(text: &[u8], from: usize, to: usize) -> u32
-    ensures { λ r. ⌜ r ≤ noWord ⌝ }
+    ensures { λ r. ⌜ r ≡ numberFrom (now (text .entry)) 0 from (to - from) ⌝ }
 {
     let mut value = 0;
     let mut i = from;
@@ -142,17 +156,14 @@ fn number_of(text: &[u8], from: usize, to: usize) -> u32
     value
 }
 
-// Whether the bytes from a place on begin with the name.
-fn begins(text: &[u8], from: usize, name: &[u8]) -> bool {
-    if text.len() < from {
-        return false;
-    }
-    if text.len() - from < name.len() {
-        return false;
-    }
+// Whether the bytes from a place on are those of the name, as many as it has.
+fn is_same(text: &[u8], from: usize, name: &[u8]) -> bool
+    requires { ⌜ from + length (now name) ≤ length (now text) ⌝ }
+    ensures { λ r. ⌜ r ≡ not (someTo (λ i. not (eqb (byteAt (now (text .entry)) (from + i)) (getD (now (name .entry)) i newline))) (length (now (name .entry)))) ⌝ }
+{
     let mut i = 0;
     while i < name.len() {
-        if byte_at(text, from + i) != name[i] {
+        if byte_at(text, from + i) != byte_at(name, i) {
             return false;
         }
         i += 1;
@@ -161,19 +172,24 @@ fn begins(text: &[u8], from: usize, name: &[u8]) -> bool {
 }
 
 // Whether the bytes from one place to before another are the name.
-fn is_named(text: &[u8], from: usize, to: usize, name: &[u8]) -> bool {
+fn is_named(text: &[u8], from: usize, to: usize, name: &[u8]) -> bool
+    ensures { λ r. ⌜ r ≡ isNamed (now (text .entry)) from to (now (name .entry)) ⌝ }
+{
     if to < from {
         return false;
     }
     if to - from != name.len() {
         return false;
     }
-    begins(text, from, name)
+    if text.len() < to {
+        return false;
+    }
+    is_same(text, from, name)
 }
 
 // The mark of the name among those that begin a line.
 fn kind_of(text: &[u8], from: usize, to: usize) -> u32
-    ensures { λ r. ⌜ r ≤ noWord ⌝ }
+    ensures { λ r. ⌜ r ≡ kindOf (now (text .entry)) from to ⌝ }
 {
     if is_named(text, from, to, b"link") {
         return Word::LINK;
@@ -192,7 +208,7 @@ fn kind_of(text: &[u8], from: usize, to: usize) -> u32
 
 // The mark of the name, among all of them.
 fn name_of(text: &[u8], from: usize, to: usize) -> u32
-    ensures { λ r. ⌜ r ≤ noWord ⌝ }
+    ensures { λ r. ⌜ r ≡ nameOf (now (text .entry)) from to ⌝ }
 {
     if is_named(text, from, to, b"up") {
         return Word::UP;
@@ -208,7 +224,7 @@ fn name_of(text: &[u8], from: usize, to: usize) -> u32
 
 // The value of the word from one place to before another.
 fn value_of(text: &[u8], from: usize, to: usize) -> u32
-    ensures { λ r. ⌜ r ≤ noWord ⌝ }
+    ensures { λ r. ⌜ r ≡ valueOf (now (text .entry)) from to ⌝ }
 {
     if to <= from {
         return Word::NONE;
@@ -222,7 +238,7 @@ fn value_of(text: &[u8], from: usize, to: usize) -> u32
 
 // The next word of a line from a place on.
 fn next(text: &[u8], at: usize, end: usize) -> Word
-    ensures { λ r. ⌜ r .value ≤ noWord ⌝ }
+    ensures { λ r. ⌜ (r .value ≡ nextValue (now (text .entry)) end at) × (r .to ≡ nextEnd (now (text .entry)) end at) ⌝ }
 {
     let from = word_from(text, at, end);
     let to = word_to(text, from, end);
@@ -234,7 +250,7 @@ fn next(text: &[u8], at: usize, end: usize) -> Word
 
 // The words of the line from a place to its end.
 pub fn line_of(text: &[u8], at: usize, end: usize) -> Line
-    ensures { λ r. ⌜ (r .kind ≤ noWord) × (r .rest ≤ noWord) ⌝ }
+    ensures { λ r. ⌜ r ≡ lineOf (now (text .entry)) at end ⌝ }
 {
     let kind = next(text, at, end);
     let a = next(text, kind.to, end);
@@ -257,7 +273,7 @@ pub fn line_of(text: &[u8], at: usize, end: usize) -> Line
 // How many lines end before place i + 1, of which so many end before place i.
 fn counted(text: &[u8], lines: usize, i: usize) -> usize
     requires { ⌜ (lines ≤ i) × (i < length (now text)) ⌝ }
-    ensures { λ r. ⌜ r ≤ i + 1 ⌝ }
+    ensures { λ r. ⌜ (r ≤ i + 1) × (r ≡ lines + onlyIf (eqb (byteAt (now (text .entry)) i) newline) 1) ⌝ }
 {
     if byte_at(text, i) == b'\n' {
         return lines + 1;
@@ -265,16 +281,24 @@ fn counted(text: &[u8], lines: usize, i: usize) -> usize
     lines
 }
 
+// The smaller of a place and the text's length.
+fn within(text: &[u8], at: usize) -> usize
+    ensures { λ r. ⌜ (r ≤ length (now (text .entry))) × (r ≡ min at (length (now (text .entry)))) ⌝ }
+{
+    if at < text.len() {
+        return at;
+    }
+    text.len()
+}
+
 // The number of the line that holds a place, from 1 on.
 pub fn line_number(text: &[u8], at: usize) -> usize
-    ensures { λ r. ⌜ r ≤ length (now (text .entry)) + 1 ⌝ }
+    ensures { λ r. ⌜ r ≡ lineNumber (now (text .entry)) at ⌝ }
 {
+    let to = within(text, at);
     let mut line = 0;
     let mut i = 0;
-    while i < text.len() {
-        if at <= i {
-            return line + 1;
-        }
+    while i < to {
         line = counted(text, line, i);
         i += 1;
     }
@@ -282,6 +306,8 @@ pub fn line_number(text: &[u8], at: usize) -> usize
 }
 
 // Whether two words are the same.
-pub fn is_word(word: &[u8], name: &[u8]) -> bool {
+pub fn is_word(word: &[u8], name: &[u8]) -> bool
+    ensures { λ r. ⌜ r ≡ isNamed (now (word .entry)) 0 (length (now (word .entry))) (now (name .entry)) ⌝ }
+{
     is_named(word, 0, word.len(), name)
 }

@@ -1,24 +1,30 @@
 -- `text::line_end` meets its contract. Assumes nothing.
+use Rattle.text.proofs.Scanning.{Scanning, scan-start, scan-more, scan-found, scan-none}
+use borrow.Author.Tests.{eq-eqb, ne-eqb}
+use mathlib.Core.Path.{sym, _∙_}
+use lib.Dec.{eqb}
 use lib.ListN.{length}
-use Prim.Native.Nat.{_+_, _-_, _≤_}
+use Prim.Native.Nat.{_-_}
+use Rattle.text.specs.Words.{newline, byteAt, lineEnd}
 use borrow.Author.Needs.{needs}
 use Rattle.text.proofs.line_end.Statement.{statement}
 use Rattle.text.proofs.line_end.Tie as tie
 
 abbrev Inv-loop : tie.InvT-loop
-Inv-loop text at i₀ i = (at ≤ i) × (i ≤ at + length text)
+Inv-loop text at i₀ i = Scanning (λ j. eqb (byteAt text j) newline) at (length text) i
 
 abbrev μ-loop : tie.MeasureT-loop
 μ-loop text at i₀ i = length text - i
 
 loop-holds : tie.Need-loop-holds Inv-loop μ-loop
-loop-holds c = search needs
+loop-holds c = scan-start _ _ _
 
 byte-at-requires : tie.Need-byte-at-requires Inv-loop μ-loop
 byte-at-requires c κs = search needs
 
 returns : tie.Need-returns Inv-loop μ-loop
-returns c = search needs
+unfolding lineEnd
+returns c = (scan-found _ _ _ _ (c .before .before .before .loop .inv) (c .before .before .loop-test .taken) (eq-eqb (byteAt (c .before .before .before .before .before .args .text .now) (c .before .before .before .loop .i)) newline (sym (c .before .byte-at .ensures) ∙ c .if1 .taken)), c .before .before .before .loop .inv .low, c .before .before .before .loop .inv .high)
 
 add-i : tie.Need-add-i Inv-loop μ-loop
 add-i c = search needs
@@ -27,10 +33,11 @@ loop-less : tie.Need-loop-less Inv-loop μ-loop
 loop-less c = search needs
 
 loop-again : tie.Need-loop-again Inv-loop μ-loop
-loop-again c = search needs
+loop-again c = scan-more _ _ _ _ (c .before .before .before .loop .inv) (c .before .before .loop-test .taken) (ne-eqb (byteAt (c .before .before .before .before .before .args .text .now) (c .before .before .before .loop .i)) newline (λ h. c .if1 .left (c .before .byte-at .ensures ∙ h)))
 
 returns-2 : tie.Need-returns-2 Inv-loop μ-loop
-returns-2 c = search needs
+unfolding lineEnd
+returns-2 c = (scan-none _ _ _ _ (c .before .loop .inv) (c .loop-test .left), c .before .loop .inv .low, c .before .loop .inv .high)
 
 pub line-end-spec : {M : Type 1} → statement M
 line-end-spec =

@@ -1,24 +1,25 @@
 -- `text::line_number` meets its contract. Assumes nothing.
-use lib.ListN.{length}
-use Prim.Native.Nat.{_-_, _≤_}
+use Rattle.text.proofs.Scanning.{Lined, line-start, line-more, line-done}
+use mathlib.Core.Path.{ap, _∙_}
+use lib.Dec.{eqb}
+use Prim.Native.Nat.{_+_, _-_}
+use Rattle.rows.specs.Count.{sumTo, onlyIf}
+use Rattle.text.specs.Words.{newline, byteAt, lineNumber}
 use borrow.Author.Needs.{needs}
 use Rattle.text.proofs.line_number.Statement.{statement}
 use Rattle.text.proofs.line_number.Tie as tie
 
 abbrev Inv-loop : tie.InvT-loop
-Inv-loop text at line₀ i₀ line i = (line ≤ i) × (i ≤ length text)
+Inv-loop text at to line₀ i₀ line i = Lined (λ j. onlyIf (eqb (byteAt text j) newline) 1) to i line
 
 abbrev μ-loop : tie.MeasureT-loop
-μ-loop text at line₀ i₀ line i = length text - i
+μ-loop text at to line₀ i₀ line i = to - i
+
+within-requires : tie.Need-within-requires Inv-loop μ-loop
+within-requires c κs = search needs
 
 loop-holds : tie.Need-loop-holds Inv-loop μ-loop
-loop-holds c = search needs
-
-add-result : tie.Need-add-result Inv-loop μ-loop
-add-result c = search needs
-
-returns : tie.Need-returns Inv-loop μ-loop
-returns c = search needs
+loop-holds c = line-start _ _
 
 counted-requires : tie.Need-counted-requires Inv-loop μ-loop
 counted-requires c κs = search needs
@@ -30,13 +31,14 @@ loop-less : tie.Need-loop-less Inv-loop μ-loop
 loop-less c = search needs
 
 loop-again : tie.Need-loop-again Inv-loop μ-loop
-loop-again c = search needs
+loop-again c = line-more _ _ _ _ (c .before .before .loop .inv) (c .before .loop-test .taken) _ (c .counted .ensures .0) (c .counted .ensures .1)
 
-add-result-2 : tie.Need-add-result-2 Inv-loop μ-loop
-add-result-2 c = search needs
+add-result : tie.Need-add-result Inv-loop μ-loop
+add-result c = search needs
 
-returns-2 : tie.Need-returns-2 Inv-loop μ-loop
-returns-2 c = search needs
+returns : tie.Need-returns Inv-loop μ-loop
+unfolding lineNumber
+returns c = ap (λ n. n + 1) (line-done _ _ _ _ (c .before .loop .inv) (c .loop-test .left) ∙ ap (sumTo _) (c .before .before .within .ensures .1))
 
 pub line-number-spec : {M : Type 1} → statement M
 line-number-spec =
@@ -44,12 +46,11 @@ line-number-spec =
     (tie.spec
     Inv-loop
     μ-loop
+    within-requires
     loop-holds
-    add-result
-    returns
     counted-requires
     add-i
     loop-less
     loop-again
-    add-result-2
-    returns-2)
+    add-result
+    returns)

@@ -1,0 +1,60 @@
+-- `text::name_of` meets its contract. Assumes nothing.
+use Rattle.text.proofs.Wording.{if-so, if-not}
+use mathlib.Core.Path.{sym, _∙_}
+use Rattle.text.specs.Words.{nameOf}
+use borrow.Author.Needs.{needs}
+use Rattle.text.proofs.name_of.Statement.{statement}
+use Rattle.text.proofs.name_of.Tie as tie
+
+slice-aggregate-is-named : tie.Need-slice-aggregate-is-named
+slice-aggregate-is-named c = search needs
+
+is-named-requires : tie.Need-is-named-requires
+is-named-requires c κs = search needs
+
+returns : tie.Need-returns
+unfolding nameOf
+returns c = if-so _ _ _ (sym (c .before .is-named .ensures) ∙ c .if1 .taken)
+
+slice-aggregate-is-named-2 : tie.Need-slice-aggregate-is-named-2
+slice-aggregate-is-named-2 c = search needs
+
+is-named-requires-2 : tie.Need-is-named-requires-2
+is-named-requires-2 c κs = search needs
+
+returns-2 : tie.Need-returns-2
+unfolding nameOf
+returns-2 c = if-not _ _ _ _ (sym (c .before .before .before .before .is-named .ensures) ∙ c .before .before .before .if1 .left) (if-so _ _ _ (sym (c .before .is-named2 .ensures) ∙ c .if2 .taken))
+
+slice-aggregate-is-named-3 : tie.Need-slice-aggregate-is-named-3
+slice-aggregate-is-named-3 c = search needs
+
+is-named-requires-3 : tie.Need-is-named-requires-3
+is-named-requires-3 c κs = search needs
+
+returns-3 : tie.Need-returns-3
+unfolding nameOf
+returns-3 c = if-not _ _ _ _ (sym (c .before .before .before .before .before .before .before .is-named .ensures) ∙ c .before .before .before .before .before .before .if1 .left) (if-not _ _ _ _ (sym (c .before .before .before .before .is-named2 .ensures) ∙ c .before .before .before .if2 .left) (if-so _ _ _ (sym (c .before .is-named3 .ensures) ∙ c .if3 .taken)))
+
+kind-of-requires : tie.Need-kind-of-requires
+kind-of-requires c κs = search needs
+
+returns-4 : tie.Need-returns-4
+unfolding nameOf
+returns-4 c = if-not _ _ _ _ (sym (c .before .before .before .before .before .before .before .before .is-named .ensures) ∙ c .before .before .before .before .before .before .before .if1 .left) (if-not _ _ _ _ (sym (c .before .before .before .before .before .is-named2 .ensures) ∙ c .before .before .before .before .if2 .left) (if-not _ _ _ _ (sym (c .before .before .is-named3 .ensures) ∙ c .before .if3 .left) (c .kind-of .ensures)))
+
+pub name-of-spec : {M : Type 1} → statement M
+name-of-spec =
+    tie.close
+    (tie.spec
+    slice-aggregate-is-named
+    is-named-requires
+    returns
+    slice-aggregate-is-named-2
+    is-named-requires-2
+    returns-2
+    slice-aggregate-is-named-3
+    is-named-requires-3
+    returns-3
+    kind-of-requires
+    returns-4)
