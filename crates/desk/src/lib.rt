@@ -193,7 +193,7 @@ fn is_there(name: &[u8]) -> bool {
 }
 
 // Makes a new file of these bytes and answers whether it did: first under its name with `.part` behind it, then by a rename,
-// so that no file of the name is ever half written. A file that is there stays, and it is said.
+// so that no file of the name is ever half written. A file that is there and can be opened stays, and it is said.
 pub fn write_new(name: &[u8], bytes: &[u8]) -> bool {
     if Desk::NAME < name.len() {
         return complain(name, b"the name is too long");
