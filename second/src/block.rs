@@ -65,8 +65,9 @@ fn filler_is_zero(payload: &[u8], kind: u16, used_bytes: usize) -> bool {
 
 /// Kind, edition, number, used count and filler are those asked.
 fn form_is_right(block: &[u8], kind: u16, number: u16, used: u16) -> bool {
-    let Some((most, width)) = holds(kind) else {
-        return false;
+    let (most, width) = match holds(kind) {
+        Some(both) => both,
+        None => return false,
     };
     (1..=most).contains(&(used as usize))
         && u16::from(block[0]) == kind

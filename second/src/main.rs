@@ -9,7 +9,7 @@ use second::listing::listing;
 use second::samples::samples;
 use second::series::lines;
 use std::env::args;
-use std::io::{stdin, stdout, Error, Read, Result, Write};
+use std::io::{stdin, stdout, Error, ErrorKind, Read, Result, Write};
 use std::path::Path;
 use std::process::ExitCode;
 
@@ -88,7 +88,7 @@ fn compare(printed: &Path) -> Result<()> {
     let printed = std::fs::read(printed)?;
     match first_difference(&input, &String::from_utf8_lossy(&printed)) {
         None => Ok(()),
-        Some(text) => Err(Error::other(text)),
+        Some(text) => Err(Error::new(ErrorKind::Other, text)),
     }
 }
 

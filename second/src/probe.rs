@@ -169,8 +169,9 @@ pub enum Next {
 
 /// Takes the next case off the front of the input.
 pub fn next(input: &mut &[u8]) -> Next {
-    let Some(words) = take_words(input, HEAD_WORDS) else {
-        return Next::End;
+    let words = match take_words(input, HEAD_WORDS) {
+        Some(words) => words,
+        None => return Next::End,
     };
     let head = Head::decode(&words);
     if !is_op(head.op) {

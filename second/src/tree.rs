@@ -84,11 +84,12 @@ impl PathLengths {
         order.sort_by_key(|&x| tree.hops[x]);
         let mut t = vec![vec![0; n]; n];
         for (met, &v) in order.iter().enumerate() {
-            let Some(p) = tree.parent[v] else { continue };
-            let w = u64::from(net.tree_link(v).length);
-            for &u in &order[..met] {
-                t[u][v] = t[u][p] + w;
-                t[v][u] = t[u][v];
+            if let Some(p) = tree.parent[v] {
+                let w = u64::from(net.tree_link(v).length);
+                for &u in &order[..met] {
+                    t[u][v] = t[u][p] + w;
+                    t[v][u] = t[u][v];
+                }
             }
         }
         PathLengths(t)

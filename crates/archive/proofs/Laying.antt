@@ -40,7 +40,7 @@ module _ (f : ℕ → List ℕ) (part : Part) (before : List ℕ) (held : Held p
     front-size : length (rowsTo (λ i. f (part .from + i)) r) ≡ r * heldBytes (part .kind)
     front-size = rows-length (λ i. f (part .from + i)) (heldBytes (part .kind)) (λ i. sized (part .from + i)) r
 
-    pub laying-room : r < part .used → frontBytes + r * heldBytes (part .kind) + heldBytes (part .kind) ≤ length now
+    laying-room : r < part .used → frontBytes + r * heldBytes (part .kind) + heldBytes (part .kind) ≤ length now
     laying-room l =
         omega (arith, laying-length, held .fits, mul-le-mul-right {m = suc r} {n = part .used} (heldBytes (part .kind)) l)
 

@@ -15,7 +15,7 @@ use Rattle.block.specs.Work.{badFront}
 use Rattle.block.proofs.Summing.{number-two, first-six}
 
 -- two bytes are those of a number exactly where they stand for it
-pub two-bytes : (x y v : ℕ) → x < 256 → y < 256 → v < 65536 → (eqb x (v / 256 % 256) && eqb y (v % 256)) ≡ eqb (x * 256 + y) v
+two-bytes : (x y v : ℕ) → x < 256 → y < 256 → v < 65536 → (eqb x (v / 256 % 256) && eqb y (v % 256)) ≡ eqb (x * 256 + y) v
 two-bytes x y v l m n = go (eqb (x * 256 + y) v) refl
   where
     go : (t : Bool) → eqb (x * 256 + y) v ≡ t → (eqb x (v / 256 % 256) && eqb y (v % 256)) ≡ t
@@ -41,7 +41,7 @@ six true true true true true true = refl
 
 module _ (kind number used : ℕ) (b : List ℕ) (l : length b ≡ blockBytes) (bytes : (i : ℕ) → getD b i 0 < 256) (n : number < 65536) (u : used < 65536) where
   -- front by front
-  pub front-same : same (take 6 b) (front kind number used) ≡ (eqb (getD b 0 0) kind && (eqb (getD b 1 0) editionOne && (eqb (numberIn b 2 2) number && eqb (numberIn b 4 2) used)))
+  front-same : same (take 6 b) (front kind number used) ≡ (eqb (getD b 0 0) kind && (eqb (getD b 1 0) editionOne && (eqb (numberIn b 2 2) number && eqb (numberIn b 4 2) used)))
   unfolding same front bytesOf
   front-same =
       ap (λ (t : List ℕ). same t (front kind number used)) (first-six b l)

@@ -38,7 +38,7 @@ zeros s i k l h =
 
 -- what a block that is taken holds
 module _ (kind number used : ℕ) (b : List ℕ) (h : blockVerdict kind number used b ≡ Taken) where
-  pub taken-check : numberIn b 6 2 ≡ checkOf b
+  taken-check : numberIn b 6 2 ≡ checkOf b
   unfolding blockVerdict badCheck
   taken-check =
       eqb-true (numberIn b 6 2) (checkOf b)
@@ -55,10 +55,10 @@ module _ (kind number used : ℕ) (b : List ℕ) (h : blockVerdict kind number u
   pub taken-heard : unheard kind used ≡ false
   taken-heard = parts .0
 
-  pub taken-front : take 6 b ≡ front kind number used
+  taken-front : take 6 b ≡ front kind number used
   taken-front = same-equal (take 6 b) (front kind number used) (not-false _ (parts .1))
 
-  pub taken-unused : drop (frontBytes + used * recordBytes kind) b ≡ replicate (payloadBytes - used * recordBytes kind) 0
+  taken-unused : drop (frontBytes + used * recordBytes kind) b ≡ replicate (payloadBytes - used * recordBytes kind) 0
   unfolding badFiller
   taken-unused =
       zeros b (frontBytes + used * recordBytes kind) (payloadBytes - used * recordBytes kind)

@@ -35,7 +35,7 @@ unfolding crosses
 no-cross t x k l h = rw h (and-none (inService l && not (eqb k (t .link x))))
 
 -- the record of x in a row of records whose width is known for the first n alone
-pub record-at : (n : ℕ) (f : ℕ → List ℕ) (more : List ℕ) → ((x : ℕ) → x < n → length (f x) ≡ entryWidth) → (x : ℕ) → x < n → standing (rowsTo f n ++ more) x ≡ f x
+record-at : (n : ℕ) (f : ℕ → List ℕ) (more : List ℕ) → ((x : ℕ) → x < n → length (f x) ≡ entryWidth) → (x : ℕ) → x < n → standing (rowsTo f n ++ more) x ≡ f x
 unfolding standing
 record-at n f more sized x l = rows-at-in f entryWidth n sized more x l
 

@@ -44,15 +44,15 @@ links-agree links c d n =
 
 module _ (links parents : List ℕ) (search : Search) (entries : List ℕ) (room : length parents * entryWidth ≤ length entries) where
   -- does the tree link of x lie on the path between the ends of the link that is changed?
-  unfoldable pub wayOf : Change → ℕ → Bool
+  unfoldable wayOf : Change → ℕ → Bool
   wayOf c x = onPath (treeOf (netOf links parents search)) (linkIn links (c .link) .first) (linkIn links (c .link) .second) x
 
   -- what both changes make of each record
-  unfoldable pub bothAt : Change → Change → List ℕ → ℕ → List ℕ
+  unfoldable bothAt : Change → Change → List ℕ → ℕ → List ℕ
   bothAt c d after x = cond (wayOf c x || wayOf d x) (entryRow (entry (netOf after parents search) x)) (standing entries x)
 
   module _ (c d : Change) (n : c .link ≡ d .link → ⊥) (a : Allowed (netOf links parents search) c) (b : Allowed (netOf (setLink links c) parents search) d) where
-    unfoldable pub middle : List ℕ
+    unfoldable middle : List ℕ
     middle = mended (netOf links parents search) (netOf (setLink links c) parents search) (c .link) entries
 
     other-way : (x : ℕ) → onWay (setLink links c) parents search d b x ≡ wayOf d x
@@ -83,13 +83,13 @@ module _ (links parents : List ℕ) (search : Search) (entries : List ℕ) (room
         ∙ drop-at (rowsTo (madeAt links parents search c a entries) (length parents)) (drop (length parents * entryWidth) entries) (length parents * entryWidth)
         (rows-length-in (madeAt links parents search c a entries) entryWidth (length parents) (made-size links parents search c a entries room))
 
-    pub both-rows : mended (netOf (setLink links c) parents search) (netOf (setLink (setLink links c) d) parents search) (d .link) middle ≡ rowsTo (bothAt c d (setLink (setLink links c) d)) (length parents) ++ drop (length parents * entryWidth) entries
+    both-rows : mended (netOf (setLink links c) parents search) (netOf (setLink (setLink links c) d) parents search) (d .link) middle ≡ rowsTo (bothAt c d (setLink (setLink links c) d)) (length parents) ++ drop (length parents * entryWidth) entries
     both-rows =
         mended-rows (setLink links c) parents search d b middle
         ∙ ap₂ (λ (r s : List ℕ). r ++ s) (rows-cong _ _ (length parents) both-is) past
 
   -- the two changes may change places
-  pub tables-agree : (c d : Change) → (c .link ≡ d .link → ⊥) → (ac : Allowed (netOf links parents search) c) (bd : Allowed (netOf (setLink links c) parents search) d) (ad : Allowed (netOf links parents search) d) (bc : Allowed (netOf (setLink links d) parents search) c) → mended (netOf (setLink links c) parents search) (netOf (setLink (setLink links c) d) parents search) (d .link) (mended (netOf links parents search) (netOf (setLink links c) parents search) (c .link) entries) ≡ mended (netOf (setLink links d) parents search) (netOf (setLink (setLink links d) c) parents search) (c .link) (mended (netOf links parents search) (netOf (setLink links d) parents search) (d .link) entries)
+  tables-agree : (c d : Change) → (c .link ≡ d .link → ⊥) → (ac : Allowed (netOf links parents search) c) (bd : Allowed (netOf (setLink links c) parents search) d) (ad : Allowed (netOf links parents search) d) (bc : Allowed (netOf (setLink links d) parents search) c) → mended (netOf (setLink links c) parents search) (netOf (setLink (setLink links c) d) parents search) (d .link) (mended (netOf links parents search) (netOf (setLink links c) parents search) (c .link) entries) ≡ mended (netOf (setLink links d) parents search) (netOf (setLink (setLink links d) c) parents search) (c .link) (mended (netOf links parents search) (netOf (setLink links d) parents search) (d .link) entries)
   unfolding middle bothAt
   tables-agree c d n ac bd ad bc =
       both-rows c d n ac bd

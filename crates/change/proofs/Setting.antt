@@ -17,7 +17,7 @@ use Rattle.tree.specs.Tree.{treeOf}
 use Rattle.change.specs.Change.{setLink}
 
 module _ (links : List ℕ) (c : Change) where
-  pub size-same : length (setLink links c) ≡ length links
+  size-same : length (setLink links c) ≡ length links
   unfolding setLink
   size-same =
       length-set (set links (c .link * linkWidth + 2) (c .length)) (c .link * linkWidth + 3) (c .mark)

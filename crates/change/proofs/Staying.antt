@@ -30,8 +30,8 @@ use Rattle.change.proofs.Setting.{count-same, link-other, link-set, tre
 pub record Allowed (g : Net) (c : Change) : Type 0 where
   pub before : Sound g
   pub there : c .link < g .links
-  pub mark-ok : badMark (c .mark) ≡ false
-  pub spare-ok : isParent g (c .link) ≡ false
+  mark-ok : badMark (c .mark) ≡ false
+  spare-ok : isParent g (c .link) ≡ false
   pub fits : breaks g c ≡ false
 
 pub allowed : (g : Net) (entries : List ℕ) (c : Change) → changeVerdict g entries c ≡ Taken → Allowed g c

@@ -192,9 +192,13 @@ fn is_there(name: &[u8]) -> bool {
     true
 }
 
-// Makes a new file of these bytes and answers whether it did: first under its name with `.part` behind it, then by a rename,
-// so that no file of the name is ever half written. A file that is there and can be opened stays, and it is said.
-pub fn write_new(name: &[u8], bytes: &[u8]) -> bool {
+// Makes a new file of the first bytes of a row, as many as `size`, and answers whether it did: first under its name with `.part`
+// behind it, then by a rename, so that no file of the name is ever half written. A file that is there and can be opened stays,
+// and it is said.
+pub fn write_new(name: &[u8], row: &[u8], size: usize) -> bool {
+    if row.len() < size {
+        return complain(name, b"there are fewer bytes than its length");
+    }
     if Desk::NAME < name.len() {
         return complain(name, b"the name is too long");
     }
@@ -207,5 +211,5 @@ pub fn write_new(name: &[u8], bytes: &[u8]) -> bool {
     if room.len() < ended {
         return false;
     }
-    make(&room[0..ended], name, bytes)
+    make(&room[0..ended], name, &row[0..size])
 }

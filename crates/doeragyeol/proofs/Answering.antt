@@ -103,7 +103,7 @@ module _ (g : Net) (words row : List ℕ) where
 
 -- the writer
 module _ (g : Net) (file size : List ℕ) where
-  abbrev pub Write : ℕ → List ℕ → List ℕ → Type 0
+  abbrev Write : ℕ → List ℕ → List ℕ → Type 0
   Write w file′ size′ =
       (w ≡ wordOf (writeSaid g file size)) × (file′ ≡ fileRow g file size) × (size′ ≡ lengthRow g file size)
 

@@ -147,7 +147,10 @@ impl Edition {
 
     pub const ENTRIES_A_BLOCK: usize = 18;
 
+    // The longest file.
     pub const BLOCKS: usize = 63;
+
+    pub const FILE_BYTES: usize = Edition::BLOCKS * Edition::BLOCK_BYTES;
 
     // What a file can hold.
     pub fn limits() -> Limits

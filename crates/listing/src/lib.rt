@@ -2,7 +2,6 @@
 ghost use mathlib.Core.Path.{_≡_};
 ghost use Prim.Native.Nat.{_*_, _≤_, _<_};
 ghost use lib.ListN.{length};
-ghost use Rattle.listing.specs.Listed.{firstLinks};
 ghost use Rattle.edition.specs.Limits.{nodeLimit, entryWidth};
 use archive::Header;
 use edition::Edition;
@@ -143,14 +142,4 @@ pub fn put_listing(
     let headed = put_header(out, at, header);
     let listed = put_nodes(out, headed, search.root, parents, entries);
     put_unprotected(out, listed, told)
-}
-
-// The numbers of the first m links: that part of the lent row, no copy; all of it where m is over the limit on links.
-pub fn links_of(links: &[u16], m: usize) -> &[u16]
-    ensures { λ r. ⌜ now r ≡ firstLinks (now (links .entry)) m ⌝ }
-{
-    if Memory::LINKS < m {
-        return links;
-    }
-    rows::first(links, m * Memory::LINK)
 }

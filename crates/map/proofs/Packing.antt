@@ -29,7 +29,7 @@ unfolding onlyIf
 twice true k = pow-succ' 2 k
 twice false k = refl
 
-pub packed-lt : (p : ℕ → Bool) (k : ℕ) → packed p k < 2 ^ k
+packed-lt : (p : ℕ → Bool) (k : ℕ) → packed p k < 2 ^ k
 unfolding packed sumTo
 packed-lt p zero = omega arith
 packed-lt p (suc k) = omega (arith, packed-lt p k, only-small (p k) (2 ^ k) (2 ^ k) (λ e. omega arith), pow-suc 2 k)

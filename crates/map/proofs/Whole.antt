@@ -41,7 +41,7 @@ first-taken [] = refl
 first-taken (x ∷ rest) = refl
 
 -- the state of x stands first in its record
-pub state-at : (g : Net) (more : List ℕ) (x : ℕ) → x < g .nodes → getD (table g ++ more) (x * entryWidth) 0 ≡ state g x
+state-at : (g : Net) (more : List ℕ) (x : ℕ) → x < g .nodes → getD (table g ++ more) (x * entryWidth) 0 ≡ state g x
 unfolding table entryRow
 state-at g more x l =
     let at : x * entryWidth ≡ x * entryWidth + 0 = omega arith in

@@ -6,6 +6,7 @@ ghost use Rattle.edition.specs.Limits.{noLink, linkWidth};
 ghost use Rattle.edition.specs.declared.Why.the-variants.{NodeCount, LinkCount, BadRoot, BadDepth, BadEnds, BadMark, BadParent};
 ghost use Rattle.rows.specs.First.{firstTo, refuseIf, refuseAt};
 ghost use Rattle.network.specs.Network.{linksIn, fieldIn, linkIn, netOf, inService, touches as touchesIt, otherEnd};
+ghost use Rattle.network.specs.Part.{firstRecords};
 ghost use Rattle.network.specs.Records.{badNodes, badLinks, badRoot, badDepth, sizeVerdict, badEnds, badMark, unfit, badParent};
 use edition::Edition;
 use edition::Found;
@@ -28,6 +29,16 @@ pub fn links_in(links: &[u16]) -> usize
     ensures { λ r. ⌜ r ≡ linksIn (now (links .entry)) ⌝ }
 {
     links.len() / Memory::LINK
+}
+
+// The records of the first m links: that part of the lent row, no copy; all of it where m is over the limit on links.
+pub fn first_links(links: &[u16], m: usize) -> &[u16]
+    ensures { λ r. ⌜ now r ≡ firstRecords (now (links .entry)) m ⌝ }
+{
+    if Memory::LINKS < m {
+        return links;
+    }
+    rows::first(links, m * Memory::LINK)
 }
 
 // Number i of the record of link e; 0 where there is no such link.

@@ -16,7 +16,7 @@ use Rattle.network.specs.declared.Link.{Link}
 use Rattle.record.specs.Record.{headerRecord, linkRecord, entryRecord, recordPut}
 
 -- k bytes are k bytes
-pub bytes-length : (k v : ℕ) → length (bytesOf k v) ≡ k
+bytes-length : (k v : ℕ) → length (bytesOf k v) ≡ k
 unfolding bytesOf
 bytes-length zero v = refl
 bytes-length (suc k) v = omega (arith, length-append (bytesOf k (v / 256)) (v % 256 ∷ []), bytes-length k (v / 256))
@@ -91,7 +91,7 @@ pub put-first : (before : List ℕ) (i k v : ℕ) (after : List ℕ) → after �
 put-first before i k v after q = record { is = q; size = bytes-length k v }
 
 -- and more behind them
-pub put-more : (before : List ℕ) (i n : ℕ) (xs mid : List ℕ) (j m : ℕ) (ys after : List ℕ) → Put before i n xs mid → Put mid j m ys after → j ≡ i + n → Put before i (n + m) (xs ++ ys) after
+put-more : (before : List ℕ) (i n : ℕ) (xs mid : List ℕ) (j m : ℕ) (ys after : List ℕ) → Put before i n xs mid → Put mid j m ys after → j ≡ i + n → Put before i (n + m) (xs ++ ys) after
 put-more before i n xs mid j m ys after p q e =
     record {
       is = q .is ∙ (ap (λ (r : List ℕ). sets r j ys) (p .is) ∙ sets-behind xs ys before i j (omega (arith, e, p .size)));

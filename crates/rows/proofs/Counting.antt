@@ -45,7 +45,7 @@ unfolding sumTo
 sum-cong f g zero h = refl
 sum-cong f g (suc k) h = ap₂ _+_ (sum-cong f g k (λ j l. h j (omega arith))) (h k (omega arith))
 
-pub max-cong : (f g : ℕ → ℕ) (k : ℕ) → ((j : ℕ) → j < k → f j ≡ g j) → maxTo f k ≡ maxTo g k
+max-cong : (f g : ℕ → ℕ) (k : ℕ) → ((j : ℕ) → j < k → f j ≡ g j) → maxTo f k ≡ maxTo g k
 unfolding maxTo
 max-cong f g zero h = refl
 max-cong f g (suc k) h = ap₂ max (max-cong f g k (λ j l. h j (omega arith))) (h k (omega arith))
@@ -76,7 +76,7 @@ pub sum-balance : (f g p q : ℕ → ℕ) (k : ℕ) → ((j : ℕ) → j < k →
 sum-balance f g p q k h = sym (sum-add f g k) ∙ sum-cong (λ j. f j + g j) (λ j. p j + q j) k h ∙ sum-add p q k
 
 -- the largest value is one of them, or 0
-pub max-attained : (f : ℕ → ℕ) (k : ℕ) → 0 < maxTo f k → (j : ℕ) × (j < k) × (f j ≡ maxTo f k)
+max-attained : (f : ℕ → ℕ) (k : ℕ) → 0 < maxTo f k → (j : ℕ) × (j < k) × (f j ≡ maxTo f k)
 unfolding maxTo
 max-attained f zero h = absurd (not-suc-le-zero h)
 max-attained f (suc k) h = go (max-attained f k) (leb (f k) (maxTo f k)) refl

@@ -28,7 +28,7 @@ module _ (f : ℕ → ℕ) (row : List ℕ) where
           let low : i < k = omega (arith, eqb-false i k e) in
           List·getD-append (rowsTo (λ u. f u ∷ []) k) (f k ∷ []) 0 i (omega (arith, front-length k)) ∙ ih low
 
-  pub fill-start : rowWith f 0 row ≡ row
+  fill-start : rowWith f 0 row ≡ row
   unfolding rowWith rowsTo
   fill-start = refl
 
@@ -36,7 +36,7 @@ module _ (f : ℕ → ℕ) (row : List ℕ) where
   unfolding rowWith
   fill-length k l = omega (arith, length-append (rowsTo (λ u. f u ∷ []) k) (drop k row), front-length k, length-drop k row)
 
-  pub fill-more : (k : ℕ) → k < length row → (v : ℕ) → v ≡ f k → set (rowWith f k row) k v ≡ rowWith f (k + 1) row
+  fill-more : (k : ℕ) → k < length row → (v : ℕ) → v ≡ f k → set (rowWith f k row) k v ≡ rowWith f (k + 1) row
   unfolding rowWith rowsTo
   fill-more k l v q =
       rw (add-one k, drop-cons row k 0 l, set-at (rowsTo (λ u. f u ∷ []) k) (getD row k 0) (drop (suc k) row) v k (front-length k), q)

@@ -15,7 +15,7 @@ use Rattle.rows.specs.First.{firstTo, refusedAt, refuseAt, refuseIf, fir
 use Rattle.rows.proofs.Tests.{lastly}
 use Rattle.rows.proofs.Best.{Lowest, nowhere, first-is, first-unique}
 
-pub refused-not : {A : Type 0} {r : Refusal} → Refused r ≡ Taken → A
+refused-not : {A : Type 0} {r : Refusal} → Refused r ≡ Taken → A
 refused-not q = absurd (subst code q tt)
   where
     code : Verdict → Type 0

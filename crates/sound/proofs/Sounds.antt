@@ -62,7 +62,7 @@ pub sizes-nodes : (most : Limits) (n m : ℕ) (search : Search) (v : Verdict) �
 unfolding sizeVerdict
 sizes-nodes most n m search v e q p = subst (λ (k : Limits). badNodes k n ≡ false) e (if-taken _ NodeCount 0 (head-taken _ _ (sym q ∙ p)))
 
-pub records-say : (g : Net) → recordVerdict g ≡ Taken → Recorded g
+records-say : (g : Net) → recordVerdict g ≡ Taken → Recorded g
 unfolding recordVerdict
 records-say g t5 =
     let t6 = rest-taken _ _ t5 in
@@ -91,7 +91,7 @@ sizes-taken g s =
     (both-taken _ _ (if-passes _ BadRoot 0 (s .root-ok))
     (both-taken _ _ (if-passes _ BadDepth 0 (s .depth-ok)) none-left)))
 
-pub records-taken : (g : Net) → Recorded g → recordVerdict g ≡ Taken
+records-taken : (g : Net) → Recorded g → recordVerdict g ≡ Taken
 unfolding recordVerdict
 records-taken g r =
     both-taken _ _ (at-passes (λ e. badEnds (g .nodes) (g .link e)) (g .links) BadEnds (r .ends-ok))

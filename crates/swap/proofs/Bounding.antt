@@ -34,7 +34,7 @@ pub sum-limit : sumLimit ≡ 17112564735
 sum-limit = refl
 
 -- the most that a measure can come to
-pub limitOf : Measure → ℕ
+limitOf : Measure → ℕ
 limitOf Sum = sumLimit
 limitOf Incr = wayLimit
 limitOf Max = wayLimit
@@ -68,7 +68,7 @@ module _ (g : Net) (s : Sound g) (held : (e : ℕ) → g .link e .length ≤ lon
         not-so (under (treeOf g) x (g .search .root))
         (λ p. eqb-false x (g .search .root) far (above-root (treeOf g) x (home g s (g .search .root) (root-in g s)) p))
 
-    pub cost-bound : (m : Measure) → cost m (treeOf g) x (g .link e) ≤ limitOf m
+    cost-bound : (m : Measure) → cost m (treeOf g) x (g .link e) ≤ limitOf m
     unfolding cost limitOf treeOf
     cost-bound Sum =
         omega (

@@ -37,7 +37,7 @@ inside-out t x f u h = rw h
 
 module _ (t : Tree) (x : ℕ) (l : Link) where
   -- the lower end of a link that crosses x is in T(x), the other is not
-  pub ends-split : differ (under t x (l .first)) (under t x (l .second)) ≡ true → (under t x (lower t x l) ≡ true) × (under t x (upper t x l) ≡ false)
+  ends-split : differ (under t x (l .first)) (under t x (l .second)) ≡ true → (under t x (lower t x l) ≡ true) × (under t x (upper t x l) ≡ false)
   unfolding lower upper
   ends-split h =
       differ-cases (under t x (l .first)) (under t x (l .second)) h
@@ -48,7 +48,7 @@ module _ (t : Tree) (x : ℕ) (l : Link) where
   unfolding crosses
   crossing-splits e h = ends-split (and-right (inService l && not (eqb e (t .link x))) _ h)
 
-  pub crossing-serves : (e : ℕ) → crosses t x e l ≡ true → inService l ≡ true
+  crossing-serves : (e : ℕ) → crosses t x e l ≡ true → inService l ≡ true
   unfolding crosses
   crossing-serves e h = and-left (inService l) (not (eqb e (t .link x))) (and-left (inService l && not (eqb e (t .link x))) _ h)
 
@@ -100,7 +100,7 @@ module _ (t : Tree) (x : ℕ) (l : Link) where
 
 -- in a sound network
 module _ (g : Net) (s : Sound g) (x e : ℕ) (le : e < g .links) (c : crosses (treeOf g) x e (g .link e) ≡ true) where
-  pub lower-home : Home (treeOf g) (lower (treeOf g) x (g .link e))
+  lower-home : Home (treeOf g) (lower (treeOf g) x (g .link e))
   lower-home = of-lower (treeOf g) x (g .link e) (Home (treeOf g)) (home g s _ (first-in g s e le)) (home g s _ (second-in g s e le))
 
   -- N(u) - d(u) is never cut off at 0

@@ -22,7 +22,7 @@ use Rattle.swap.proofs.Costing.{inside-in, inside-out}
 
 module _ (t : Tree) where
   -- one number at every node of T(x)
-  pub count-times : (x c : ℕ) → sumTo (inside t x (λ u. c)) (t .size) ≡ count t x * c
+  count-times : (x c : ℕ) → sumTo (inside t x (λ u. c)) (t .size) ≡ count t x * c
   unfolding count
   count-times x c = sum-cong (inside t x (λ u. c)) (λ u. inside t x (λ u. 1) u * c) (t .size) (λ u l. each u (under t x u) refl) ∙ sum-times (inside t x (λ u. 1)) c (t .size)
     where

@@ -20,7 +20,7 @@ use Rattle.swap.proofs.Choosing.{nothing-found}
 abbrev pub Crossing : Net → ℕ → ℕ → Type 0
 Crossing g x e = (e < g .links) × (crosses (treeOf g) x e (g .link e) ≡ true)
 
-abbrev pub Candidate : Net → ℕ → ℕ → Type 0
+abbrev Candidate : Net → ℕ → ℕ → Type 0
 Candidate g x e = (e < g .links) × (candidate g x e ≡ true)
 
 -- a candidate crosses
@@ -64,7 +64,7 @@ module _ (g : Net) (x : ℕ) where
   stated-below false true p q = rw (p, q) (far p q)
   stated-below false false p q = rw (p, q) (bridge q)
 
-  pub stated : eqb x (g .search .root) ≡ false → Stated (state g x)
+  stated : eqb x (g .search .root) ≡ false → Stated (state g x)
   unfolding state
   stated r = rw r (stated-below (saved g x) (crossed g x) refl refl)
 

@@ -14,9 +14,6 @@ use edition::Search;
 use edition::Why;
 use network::Link;
 
-// Bytes of the longest file.
-const LONGEST: usize = Edition::BLOCKS * Edition::BLOCK_BYTES;
-
 // Bytes of the buffer that what is printed waits in.
 const OUT: usize = 8192;
 
@@ -245,7 +242,7 @@ fn draw_file(name: &[u8], file: &[u8], measure: usize) -> bool {
 
 // The same for the first bytes of a row.
 fn draw_bytes(name: &[u8], row: &[u8], size: usize, measure: usize) -> bool {
-    if LONGEST < size {
+    if Edition::FILE_BYTES < size {
         return desk::refused(
             name,
             Refusal {
@@ -262,7 +259,7 @@ fn draw_bytes(name: &[u8], row: &[u8], size: usize, measure: usize) -> bool {
 
 // Draws the file of a name.
 fn run(name: &[u8], measure: usize) -> bool {
-    let mut row = [0u8; LONGEST + 1];
+    let mut row = [0u8; Edition::FILE_BYTES + 1];
     match desk::read(name, &mut row) {
         Got::Is(size) => draw_bytes(name, &row, size, measure),
         Got::Not => false,

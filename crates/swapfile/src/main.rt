@@ -11,9 +11,6 @@ use edition::Search;
 use text::Line;
 use text::Word;
 
-// Bytes of the longest file.
-const LONGEST: usize = Edition::BLOCKS * Edition::BLOCK_BYTES;
-
 // What the lines so far have said: how many nodes and links, the root and the depth as words, and what the last line lacked.
 struct Told {
     nodes: usize,
@@ -85,14 +82,6 @@ fn put_link(row: &mut [u16], e: usize, first: u16, second: u16, length: u16, mar
     put(row, from + 3, mark);
 }
 
-// The service mark that a word names.
-fn mark_of(word: u32) -> u16 {
-    if word == Word::UP {
-        return Edition::SERVED;
-    }
-    Edition::WITHDRAWN
-}
-
 // What a line lacks that should have ended with this word.
 fn end_lack(word: u32) -> u8 {
     if word == Word::NONE {
@@ -137,7 +126,7 @@ fn take_link(line: Line, told: Told, links: &mut [u16]) -> Told {
         line.b as u16,
         line.c as u16,
         line.d as u16,
-        mark_of(line.e),
+        text::mark_of(line.e),
     );
     Told {
         nodes: told.nodes,
@@ -297,19 +286,11 @@ fn say_lack(name: &[u8], line: usize, told: Told) -> bool {
     say_word(name, line, told.lack)
 }
 
-// Writes the first bytes of a row to a new file.
-fn keep(name: &[u8], file: &[u8], size: usize) -> bool {
-    if file.len() < size {
-        return false;
-    }
-    desk::write_new(name, &file[0..size])
-}
-
 // Makes the file of the network, or says why it is refused.
 fn store(from: &[u8], to: &[u8], links: &[u16], parents: &[u16], search: Search) -> bool {
-    let mut file = [0u8; LONGEST];
+    let mut file = [0u8; Edition::FILE_BYTES];
     match archive::write(links, parents, search, &mut file) {
-        WriteAnswer::Is(size) => keep(to, &file, size),
+        WriteAnswer::Is(size) => desk::write_new(to, &file, size),
         WriteAnswer::Not(refusal) => desk::refused(from, refusal),
     }
 }
@@ -334,7 +315,7 @@ fn finish(from: &[u8], to: &[u8], told: Told, links: &[u16], parents: &[u16]) ->
         root: told.root as u16,
         depth: depth_of(told.depth),
     };
-    let held = listing::links_of(links, told.links);
+    let held = network::first_links(links, told.links);
     store(from, to, held, rows::first(parents, told.nodes), search)
 }
 

@@ -20,19 +20,8 @@ use edition::Why;
 use text::Line;
 use text::Word;
 
-// Bytes of the longest file.
-const LONGEST: usize = Edition::BLOCKS * Edition::BLOCK_BYTES;
-
 // Bytes of the buffer that what is printed waits in.
 const OUT: usize = 8192;
-
-// The service mark that a word names.
-fn mark_of(word: u32) -> u16 {
-    if word == Word::UP {
-        return Edition::SERVED;
-    }
-    Edition::WITHDRAWN
-}
 
 // Whether a word says `up` or `down`.
 fn is_service(word: u32) -> bool {
@@ -48,7 +37,7 @@ fn change_of(line: Line) -> Change
 {
     Change {
         link: line.kind as u16,
-        mark: mark_of(line.a),
+        mark: text::mark_of(line.a),
         length: line.b as u16,
     }
 }
@@ -178,19 +167,11 @@ fn list(parents: &[u16], old: &[u64], new: &[u64]) {
     output::flush(&out, waits);
 }
 
-// Writes the first bytes of a row to a new file.
-fn keep(name: &[u8], file: &[u8], size: usize) -> bool {
-    if file.len() < size {
-        return false;
-    }
-    desk::write_new(name, &file[0..size])
-}
-
 // Makes the file of the network.
 fn store(to: &[u8], links: &[u16], parents: &[u16], search: Search) -> bool {
-    let mut file = [0u8; LONGEST];
+    let mut file = [0u8; Edition::FILE_BYTES];
     match archive::write(links, parents, search, &mut file) {
-        WriteAnswer::Is(size) => keep(to, &file, size),
+        WriteAnswer::Is(size) => desk::write_new(to, &file, size),
         WriteAnswer::Not(refusal) => desk::refused(to, refusal),
     }
 }
@@ -289,7 +270,7 @@ fn correct_bytes(
     text: &[u8],
     long: usize,
 ) -> bool {
-    if LONGEST < size {
+    if Edition::FILE_BYTES < size {
         return desk::refused(
             from,
             Refusal {
@@ -318,7 +299,7 @@ fn with_text(from: &[u8], by: &[u8], to: &[u8], file: &[u8], size: usize) -> boo
 
 // Makes the file `to` of the file `from`, corrected by the text in the file `by`.
 fn run(from: &[u8], by: &[u8], to: &[u8]) -> bool {
-    let mut file = [0u8; LONGEST + 1];
+    let mut file = [0u8; Edition::FILE_BYTES + 1];
     match desk::read(from, &mut file) {
         Got::Is(size) => with_text(from, by, to, &file, size),
         Got::Not => false,

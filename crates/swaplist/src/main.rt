@@ -9,9 +9,6 @@ use edition::Refusal;
 use edition::Why;
 use map::MapAnswer;
 
-// Bytes of the longest file.
-const LONGEST: usize = Edition::BLOCKS * Edition::BLOCK_BYTES;
-
 // Bytes of the buffer that what is printed waits in.
 const OUT: usize = 8192;
 
@@ -25,7 +22,7 @@ fn put_accepted(
     at: usize,
 ) -> usize {
     let mut words = [0u64; Memory::WORDS];
-    let held = listing::links_of(links, header.links);
+    let held = network::first_links(links, header.links);
     let named = rows::first(parents, header.nodes);
     match map::unprotected_map(held, named, header.search, &mut words) {
         MapAnswer::Is(told) => listing::put_listing(header, named, entries, told, out, at),
@@ -46,7 +43,7 @@ fn list(file: &[u8], out: &mut [u8], at: usize) -> usize {
 
 // Prints the listing of the first bytes of a row, or 20 where they are more than the longest file has.
 fn answer(row: &[u8], size: usize, out: &mut [u8]) -> usize {
-    if LONGEST < size {
+    if Edition::FILE_BYTES < size {
         return output::put_refusal(
             out,
             0,
@@ -64,7 +61,7 @@ fn answer(row: &[u8], size: usize, out: &mut [u8]) -> usize {
 
 // One byte more than the longest file has is read, by which a longer one is seen.
 fn main() {
-    let mut row = [0u8; LONGEST + 1];
+    let mut row = [0u8; Edition::FILE_BYTES + 1];
     let mut out = [0u8; OUT];
     let size = io::read_full(libc::STDIN_FILENO, &mut row);
     let waits = answer(&row, size, &mut out);

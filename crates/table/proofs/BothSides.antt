@@ -57,7 +57,7 @@ module _ (t : Tree) (all : (u : ℕ) → u < t .size → Home t u) (closed : (u 
       omega (arith, reach-at true (t .size - 1 - y) y (omega arith) e (t .size - 1 - x) (omega arith))
 
   -- what both passes leave is what is beside
-  pub both-sides : max (dist t (t .up x)) (max (maxTo (kid t false (t .size) (t .up x)) (placed false (t .size) x)) (maxTo (kid t true (t .size) (t .up x)) (placed true (t .size) x))) ≡ aside t x
+  both-sides : max (dist t (t .up x)) (max (maxTo (kid t false (t .size) (t .up x)) (placed false (t .size) x)) (maxTo (kid t true (t .size) (t .up x)) (placed true (t .size) x))) ≡ aside t x
   both-sides =
       le-antisymm
       (omega (arith, parent-beside t all closed x l r, front-small, back-small))

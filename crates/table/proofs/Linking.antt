@@ -55,7 +55,7 @@ module _ (g : Net) (s : Sound g) (e k : ℕ) (p : Spare g e k) where
       touching : e ≡ g .parent x → (eqb (g .link e .first) x || eqb (g .link e .second) x) ≡ true
       touching q = subst (λ (j : ℕ). touches (g .link j) x ≡ true) (sym q) (parent-touches g s x l r)
 
-  pub spare-crosses : (x : ℕ) → x < g .nodes → eqb x (g .search .root) ≡ false → crosses (treeOf g) x e (g .link e) ≡ differ (under (treeOf g) x (g .link e .first)) (under (treeOf g) x (g .link e .second))
+  spare-crosses : (x : ℕ) → x < g .nodes → eqb x (g .search .root) ≡ false → crosses (treeOf g) x e (g .link e) ≡ differ (under (treeOf g) x (g .link e .first)) (under (treeOf g) x (g .link e .second))
   unfolding crosses treeOf
   spare-crosses x l r = rw (p .serves, not-own x l r)
 
@@ -67,21 +67,21 @@ joined false false y u v = refl
 
 -- a link's two ends, told in either order
 pub record Ends (g : Net) (e y z : ℕ) : Type 0 where
-  pub one-in : y < g .nodes
-  pub two-in : z < g .nodes
+  one-in : y < g .nodes
+  two-in : z < g .nodes
   pub differs : (x : ℕ) → under (treeOf g) x y ≡ true → under (treeOf g) x z ≡ false → differ (under (treeOf g) x (g .link e .first)) (under (treeOf g) x (g .link e .second)) ≡ true
-  pub lower-is : (x : ℕ) → under (treeOf g) x y ≡ true → under (treeOf g) x z ≡ false → lower (treeOf g) x (g .link e) ≡ y
+  lower-is : (x : ℕ) → under (treeOf g) x y ≡ true → under (treeOf g) x z ≡ false → lower (treeOf g) x (g .link e) ≡ y
 
 -- the nodes that two climbs from y and z have passed when they are at a and b
-abbrev pub passing : Tree → ℕ → ℕ → ℕ → ℕ → ℕ → Bool
+abbrev passing : Tree → ℕ → ℕ → ℕ → ℕ → ℕ → Bool
 passing t y z a b v = has v (upTo a (route t y)) || has v (upTo b (route t z))
 
 -- between the beginning of the two climbs and their meeting
 pub record Between (g : Net) (n : ℕ) (marks : List ℕ) (e y z : ℕ) (row₀ : List ℕ) (a b : Side) (row : List ℕ) : Type 0 where
-  pub ca : Carries (treeOf g) y a
-  pub cb : Carries (treeOf g) z b
-  pub fa : (v : ℕ) → has v (upTo (a .climb .node) (route (treeOf g) y)) ≡ true → under (treeOf g) v z ≡ false
-  pub fb : (v : ℕ) → has v (upTo (b .climb .node) (route (treeOf g) z)) ≡ true → under (treeOf g) v y ≡ false
+  ca : Carries (treeOf g) y a
+  cb : Carries (treeOf g) z b
+  fa : (v : ℕ) → has v (upTo (a .climb .node) (route (treeOf g) y)) ≡ true → under (treeOf g) v z ≡ false
+  fb : (v : ℕ) → has v (upTo (b .climb .node) (route (treeOf g) z)) ≡ true → under (treeOf g) v y ≡ false
   pub size : length row ≡ length row₀
   pub rows : (before : List ℕ) → Entries n (want g marks before e) before row₀ → Entries n (λ v. cond (passing (treeOf g) y z (a .climb .node) (b .climb .node) v) (want g marks before (suc e) v) (want g marks before e v)) before row
 

@@ -35,7 +35,7 @@ module _ (g : Net) (marks before : List ℕ) where
   unfolding want
   want-marked k x e = rw e
 
-  pub want-unmarked : (k j x : ℕ) → marked marks x ≡ false → want g marks before k x ≡ want g marks before j x
+  want-unmarked : (k j x : ℕ) → marked marks x ≡ false → want g marks before k x ≡ want g marks before j x
   unfolding want
   want-unmarked k j x e = rw e
 

@@ -25,7 +25,7 @@ use Rattle.swap.specs.Fold.{deepest}
 use Rattle.table.specs.Work.{Holds, child, placed, Raised, kid, Passed}
 
 -- a place is its own place from the other side
-pub placed-back : (back : Bool) (n j : ℕ) → j < n → placed back n (placed back n j) ≡ j
+placed-back : (back : Bool) (n j : ℕ) → j < n → placed back n (placed back n j) ≡ j
 unfolding placed
 placed-back true n j l = omega arith
 placed-back false n j l = refl
@@ -122,7 +122,7 @@ module _ (links parents : List ℕ) (search : Search) (ok : netVerdict (netOf li
     r : eqb c (treeIn links parents search .root) ≡ false
     r = off-root links parents search c n
 
-    pub parent-low : p < length parents
+    parent-low : p < length parents
     parent-low = rw q (up-low links parents search ok c lc)
 
     child-is : (y : ℕ) → child (treeIn links parents search) y c ≡ eqb p y

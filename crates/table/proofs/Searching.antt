@@ -22,7 +22,7 @@ next : (k : ℕ) → suc k ≡ k + 1
 next k = omega arith
 
 -- a row as it stands
-pub entries-stand : (n : ℕ) (row : List ℕ) → Entries n (standing row) row row
+entries-stand : (n : ℕ) (row : List ℕ) → Entries n (standing row) row row
 unfolding standing
 entries-stand n row =
     record {

@@ -25,7 +25,7 @@ use lib.Seq.{getD-set-same}
 use Rattle.table.proofs.Slots.{entry-known}
 
 -- the row of marks with x alone
-abbrev pub onlyMark : ℕ → List ℕ
+abbrev onlyMark : ℕ → List ℕ
 onlyMark x = set (replicate nodeLimit 0) x 1
 
 -- the row that the run is lent

@@ -34,7 +34,7 @@ differ-same : (a : Bool) → differ a a ≡ false
 differ-same true = refl
 differ-same false = refl
 
-pub linked-none : (g : Net) (n : ℕ) (marks : List ℕ) (e : ℕ) (row : List ℕ) → ((x : ℕ) → crosses (treeOf g) x e (g .link e) ≡ false) → Linked g n marks e row row
+linked-none : (g : Net) (n : ℕ) (marks : List ℕ) (e : ℕ) (row : List ℕ) → ((x : ℕ) → crosses (treeOf g) x e (g .link e) ≡ false) → Linked g n marks e row row
 linked-none g n marks e row c =
     record { goes-on = λ before h. entries-same _ _ _ before row (λ x l. sym (want-kept g marks before e x (c x))) h }
 
@@ -66,16 +66,16 @@ module _ (g : Net) (s : Sound g) (e : ℕ) (there : e < g .links) where
       go false c = rw (h x c, differ-same (under (treeOf g) x (g .link e .second)), and-none (inService (g .link e) && not (eqb e (g .parent x))))
 
   -- a tree link crosses nothing
-  pub own-first : g .parent (g .link e .first) ≡ e → (x : ℕ) → crosses (treeOf g) x e (g .link e) ≡ false
+  own-first : g .parent (g .link e .first) ≡ e → (x : ℕ) → crosses (treeOf g) x e (g .link e) ≡ false
   unfolding otherEnd
   own-first q = own (g .link e .first) q (λ x n. same-side (g .link e .first) (first-in g s e there) q x n ∙ rw (eq-eqb (g .link e .first) (g .link e .first) refl))
 
-  pub own-second : g .parent (g .link e .second) ≡ e → (x : ℕ) → crosses (treeOf g) x e (g .link e) ≡ false
+  own-second : g .parent (g .link e .second) ≡ e → (x : ℕ) → crosses (treeOf g) x e (g .link e) ≡ false
   unfolding otherEnd
   own-second q = own (g .link e .second) q (λ x n. sym (same-side (g .link e .second) (second-in g s e there) q x n ∙ rw (ne-eqb (g .link e .first) (g .link e .second) (ends-differ g s e there))))
 
   -- nor does one that is out of service
-  pub idle : inService (g .link e) ≡ false → (x : ℕ) → crosses (treeOf g) x e (g .link e) ≡ false
+  idle : inService (g .link e) ≡ false → (x : ℕ) → crosses (treeOf g) x e (g .link e) ≡ false
   unfolding crosses
   idle q x = rw q
 

@@ -17,7 +17,7 @@ use Rattle.rows.proofs.Records.{rows-length-in, rows-at-in}
 use Rattle.table.specs.Work.{entryAt, Entries}
 
 -- what a run of stores leaves: the stored numbers, and the old ones elsewhere
-pub sets-out : (vs l : List ℕ) (i j : ℕ) → (b : Bool) → ltb j i ≡ b → (b ≡ false → i + length vs ≤ j) → getD (sets l i vs) j 0 ≡ getD l j 0
+sets-out : (vs l : List ℕ) (i j : ℕ) → (b : Bool) → ltb j i ≡ b → (b ≡ false → i + length vs ≤ j) → getD (sets l i vs) j 0 ≡ getD l j 0
 sets-out [] l i j b e h = refl
 sets-out (a ∷ vs) l i j true e h =
     let low = ltb-true j i e in
@@ -28,7 +28,7 @@ sets-out (a ∷ vs) l i j false e h =
     sets-out vs (set l i a) (suc i) j false (borrow.Author.Tests.le-ltb j (suc i) (omega arith)) (λ z. omega arith) ∙
     getD-set-other l i j a 0 (λ q. omega arith)
 
-pub sets-in : (vs l : List ℕ) (i k : ℕ) → k < length vs → i + length vs ≤ length l → getD (sets l i vs) (i + k) 0 ≡ getD vs k 0
+sets-in : (vs l : List ℕ) (i k : ℕ) → k < length vs → i + length vs ≤ length l → getD (sets l i vs) (i + k) 0 ≡ getD vs k 0
 sets-in [] l i k m room = absurd (not-suc-le-zero m)
 sets-in (a ∷ vs) l i zero m room =
     let here : i + 0 ≡ i = omega arith in

@@ -30,7 +30,7 @@ use Rattle.table.specs.Work.{Holds, Stemming}
 use Rattle.table.proofs.Counts.{small, dist-few}
 
 -- no subtree has more nodes than there are
-pub count-few : (t : Tree) (x : ℕ) → count t x ≤ t .size
+count-few : (t : Tree) (x : ℕ) → count t x ≤ t .size
 unfolding count
 count-few t x = omega (arith, sum-bound (inside t x (λ u. 1)) (t .size) 1 (λ j l. inside-small t x (λ u. 1) j 1 (λ e. omega arith)))
 
@@ -71,7 +71,7 @@ module _ (links parents : List ℕ) (search : Search) (ok : netVerdict (netOf li
       let k : length (route (treeIn links parents search) x) ≤ nodeLimit = omega (arith, route-length (treeIn links parents search) x, size-in links parents search, small links parents search ok held) in
       omega (arith, total-bound (stemAt (treeIn links parents search)) most stem-at-small (route (treeIn links parents search) x))
 
-  pub weight-small : (x : ℕ) → weight (treeIn links parents search) x ≤ most
+  weight-small : (x : ℕ) → weight (treeIn links parents search) x ≤ most
   unfolding weight
   weight-small x =
       let t = treeIn links parents search in
@@ -94,7 +94,7 @@ module _ (links parents : List ℕ) (search : Search) (ok : netVerdict (netOf li
     stem-start = record { on = under-self (treeIn links parents search) x hx; left = omega arith }
 
     module _ (c sum : ℕ) (i : Stemming (treeIn links parents search) x c sum) where
-      pub stem-in : c < length parents
+      stem-in : c < length parents
       unfolding treeOf netOf
       stem-in = under-below (treeIn links parents search) (up-in (netOf links parents search) s) x c hx lx (i .on)
 
@@ -131,7 +131,7 @@ module _ (links parents : List ℕ) (search : Search) (ok : netVerdict (netOf li
           pub counts-less : getD counts c 0 ≤ getD counts p 0
           counts-less = rw (at-p, at-c) (count-up (treeIn links parents search) all c c hc (under-self (treeIn links parents search) c hc) r)
 
-          pub term-is : (getD counts p 0 - getD counts c 0) * getD near p 0 ≡ stemAt (treeIn links parents search) c
+          term-is : (getD counts p 0 - getD counts c 0) * getD near p 0 ≡ stemAt (treeIn links parents search) c
           unfolding stemAt
           term-is = rw (at-p, at-c, near-p)
 

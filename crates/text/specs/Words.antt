@@ -4,6 +4,7 @@ use mathlib.Core.List.{List, [], _∷_}
 use Prim.Native.Nat.{ℕ, zero, suc, _+_, _*_, _-_, min}
 use lib.Dec.{eqb, leb}
 use lib.ListN.{length, getD}
+use Rattle.edition.specs.Limits.{served, withdrawn}
 use Rattle.rows.specs.Count.{someTo, sumTo, onlyIf}
 use Rattle.text.specs.declared.Line.{Line}
 
@@ -135,3 +136,7 @@ lineOf text at end =
 -- The number of the line of a place: one more than how many lines end before it.
 unfoldable pub lineNumber : List ℕ → ℕ → ℕ
 lineNumber text at = sumTo (λ i. onlyIf (eqb (byteAt text i) newline) 1) (min at (length text)) + 1
+
+-- The service mark that a word names.
+unfoldable pub markOf : ℕ → ℕ
+markOf word = cond (eqb word upWord) served withdrawn

@@ -6,7 +6,8 @@ ghost use Prim.Native.Nat.{_+_, _-_, _≤_, _<_, min};
 ghost use lib.Dec.{eqb};
 ghost use lib.ListN.{length, getD};
 ghost use Rattle.rows.specs.Count.{someTo, sumTo, onlyIf};
-ghost use Rattle.text.specs.Words.{newline, byteAt, isBlank, isPast, lineEnd, wordFrom, wordTo, withDigit, numberFrom, isNamed, kindOf, nameOf, valueOf, nextValue, nextEnd, lineOf, lineNumber};
+ghost use Rattle.text.specs.Words.{newline, byteAt, isBlank, isPast, lineEnd, wordFrom, wordTo, withDigit, numberFrom, isNamed, kindOf, nameOf, valueOf, nextValue, nextEnd, lineOf, lineNumber, markOf};
+use edition::Edition;
 
 // A word of a line: its value, and where it ends.
 pub struct Word {
@@ -303,6 +304,16 @@ pub fn line_number(text: &[u8], at: usize) -> usize
         i += 1;
     }
     line + 1
+}
+
+// The service mark that a word of a line names: `up` is in service, any other word withdrawn.
+pub fn mark_of(word: u32) -> u16
+    ensures { λ r. ⌜ r ≡ markOf word ⌝ }
+{
+    if word == Word::UP {
+        return Edition::SERVED;
+    }
+    Edition::WITHDRAWN
 }
 
 // Whether two words are the same.

@@ -51,7 +51,7 @@ room-passes n room h l =
     both-taken _ _ (if-passes _ NodeCount 0 h) (both-taken _ _ (if-passes _ NoRoom 0 (le-ltb room n l)) none-left)
 
 -- what a node that is taken has
-pub way-taken : (g : Net) (u : ℕ) → wayVerdict g u ≡ Taken → (g .nodes ≤ nodeLimit) × (u < g .nodes) × Home (treeOf g) u
+way-taken : (g : Net) (u : ℕ) → wayVerdict g u ≡ Taken → (g .nodes ≤ nodeLimit) × (u < g .nodes) × Home (treeOf g) u
 unfolding wayVerdict lost
 way-taken g u h =
     let e = not-false (ltb u (g .nodes) && hasRoute (treeOf g) u) (if-taken _ NoRoute u (head-taken _ _ (rest-taken _ _ h))) in (
@@ -60,7 +60,7 @@ way-taken g u h =
       and-right (ltb u (g .nodes)) (hasRoute (treeOf g) u) e,
     )
 
-pub ways-taken : (g : Net) (u z : ℕ) → waysVerdict g u z ≡ Taken → (wayVerdict g u ≡ Taken) × (wayVerdict g z ≡ Taken)
+ways-taken : (g : Net) (u z : ℕ) → waysVerdict g u z ≡ Taken → (wayVerdict g u ≡ Taken) × (wayVerdict g z ≡ Taken)
 unfolding waysVerdict
 ways-taken g u z h = (head-taken _ _ h, head-taken _ _ (rest-taken _ _ h))
 
@@ -79,11 +79,11 @@ module _ (t : Tree) where
   exact (top {u} e) = climb-root t 0 u e
   exact (hop {u} {r} e w) = climb-up t (length r) u e ∙ ap (λ (l : List ℕ). u ∷ l) (exact w)
 
-  pub climb-exact : (u k : ℕ) → Home t u → k ≡ length (route t u) → climb t k u ≡ route t u
+  climb-exact : (u k : ℕ) → Home t u → k ≡ length (route t u) → climb t k u ≡ route t u
   climb-exact u k h q = ap (λ (j : ℕ). climb t j u) q ∙ exact (way t u h)
 
   -- what the recursion wrote of a whole route
-  pub routed-whole : (u : ℕ) → Home t u → (k : ℕ) → k ≡ length (route t u) → (row after : List ℕ) (r : ℕ) → k ≤ length row → Routed t k u 0 row r after → (r ≡ dist t u) × (after ≡ route t u ++ drop (length (route t u)) row)
+  routed-whole : (u : ℕ) → Home t u → (k : ℕ) → k ≡ length (route t u) → (row after : List ℕ) (r : ℕ) → k ≤ length row → Routed t k u 0 row r after → (r ≡ dist t u) × (after ≡ route t u ++ drop (length (route t u)) row)
   unfolding dist
   routed-whole u h k q row after r room s =
       let c = climb-exact u k h q in

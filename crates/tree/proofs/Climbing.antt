@@ -66,8 +66,8 @@ module _ (t : Tree) where
   pub record Rising (n u k : ℕ) (c : Climb) : Type 0 where
     pub low : k ≤ n
     pub count : c .hops ≡ k
-    pub hops-left : length (upTo (t .root) (climb t n u)) ≡ k + length (upTo (t .root) (climb t (n - k) (c .node)))
-    pub dist-left : total (t .rise) (climb t n u) ≡ c .dist + total (t .rise) (climb t (n - k) (c .node))
+    hops-left : length (upTo (t .root) (climb t n u)) ≡ k + length (upTo (t .root) (climb t (n - k) (c .node)))
+    dist-left : total (t .rise) (climb t n u) ≡ c .dist + total (t .rise) (climb t (n - k) (c .node))
     pub small : c .dist ≤ k * longest
 
   module _ (few : (v : ℕ) → t .rise v ≤ longest) (flat : (v : ℕ) → eqb v (t .root) ≡ true → t .rise v ≡ 0) (n u : ℕ) where
@@ -193,11 +193,11 @@ module _ (t : Tree) where
         sym (append-assoc (upTo x (route t u)) (x ∷ []) (t .up x ∷ h .0)) in
         ap (upTo (t .up x)) whole ∙ upTo-last (upTo x (route t u) ++ (x ∷ [])) (h .0) (t .up x) passed-not
 
-    pub hops-on : hops t (t .up x) u ≡ hops t x u + 1
+    hops-on : hops t (t .up x) u ≡ hops t x u + 1
     unfolding hops
     hops-on = omega (arith, ap length way-on, length-append (upTo x (route t u)) (x ∷ []))
 
-    pub dist-on : wayUp t (t .up x) u ≡ wayUp t x u + t .rise x
+    dist-on : wayUp t (t .up x) u ≡ wayUp t x u + t .rise x
     unfolding wayUp total
     dist-on = omega (arith, ap (total (t .rise)) way-on, total-append (t .rise) (upTo x (route t u)) (x ∷ []))
 

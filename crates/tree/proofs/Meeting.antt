@@ -70,7 +70,7 @@ module _ (t : Tree) where
       go false f = way-before e (way t c hc) f
 
   -- the routes of u and z meet where those of z and u do
-  pub meet-sym : (u z : ℕ) → Home t u → Home t z → meet t u z ≡ meet t z u
+  meet-sym : (u z : ℕ) → Home t u → Home t z → meet t u z ≡ meet t z u
   meet-sym u z h g =
       under-both (meet t u z) (meet t z u) (home-meet u z h g) (home-meet z u g h)
       (meet-under z u (meet t u z) g h (meet-two u z h g) (meet-one u z h g))

@@ -38,14 +38,14 @@ module _ (t : Tree) where
   unfolding route hasRoute
   way u h = way-climb (t .size) u h
 
-  pub way-only : {u : ℕ} {r s : List ℕ} → Way t u r → Way t u s → r ≡ s
+  way-only : {u : ℕ} {r s : List ℕ} → Way t u r → Way t u s → r ≡ s
   way-only (top e) (top f) = refl
   way-only (top e) (hop f w) = clash e f
   way-only (hop e w) (top f) = clash f e
   way-only (hop {u} e w) (hop f v) = ap (λ (l : List ℕ). u ∷ l) (way-only w v)
 
   -- a way of at most k nodes is met within k nodes
-  pub way-arrives : {u : ℕ} {r : List ℕ} → Way t u r → (k : ℕ) → length r ≤ k → arrives t k u ≡ true
+  way-arrives : {u : ℕ} {r : List ℕ} → Way t u r → (k : ℕ) → length r ≤ k → arrives t k u ≡ true
   unfolding arrives
   way-arrives (top e) zero l = absurd (not-suc-le-zero l)
   way-arrives (top e) (suc k) l = rw e
@@ -70,7 +70,7 @@ module _ (t : Tree) where
   route-length u = climb-length (t .size) u
 
   -- a way that has x goes on from x as the way of x
-  pub way-has : {u : ℕ} {r : List ℕ} (x : ℕ) → Way t u r → has x r ≡ true → (s : List ℕ) × Way t x s × (r ≡ upTo x r ++ s)
+  way-has : {u : ℕ} {r : List ℕ} (x : ℕ) → Way t u r → has x r ≡ true → (s : List ℕ) × Way t x s × (r ≡ upTo x r ++ s)
   unfolding has
   way-has x (top {u} e) h =
       either (eqb u x) false h
@@ -81,14 +81,14 @@ module _ (t : Tree) where
       (λ q. (u ∷ r, subst (λ (n : ℕ). Way t n (u ∷ r)) (eqb-true u x q) (hop e w), rw (upTo-here u x r q) refl))
       (λ q c. let z = way-has x w c in (z .0, z .1, rw (upTo-past u x r q) (ap (λ (l : List ℕ). u ∷ l) (z .2))))
 
-  pub way-shorter : {u x : ℕ} {r s : List ℕ} → Way t u r → Way t x s → has x r ≡ true → length s ≤ length r
+  way-shorter : {u x : ℕ} {r s : List ℕ} → Way t u r → Way t x s → has x r ≡ true → length s ≤ length r
   way-shorter {x} {r} {s} w v h =
       let z = way-has x w h in
       let same : z .0 ≡ s = way-only (z .1) v in
       omega (arith, length-append (upTo x r) (z .0), ap length (z .2), ap length same)
 
   -- what stands before c in a way has a longer way than c
-  pub way-longer : {u c y : ℕ} {r s q : List ℕ} → Way t u r → Way t c s → Way t y q → has c r ≡ true → has y (upTo c r) ≡ true → length s < length q
+  way-longer : {u c y : ℕ} {r s q : List ℕ} → Way t u r → Way t c s → Way t y q → has c r ≡ true → has y (upTo c r) ≡ true → length s < length q
   unfolding has
   way-longer {c} {y} (top {u} e) v p h g =
       either (eqb u c) false h (λ z. clash (rw (upTo-here u c [] z) at g) refl) (λ z n. clash n refl)
@@ -107,7 +107,7 @@ module _ (t : Tree) where
   way-root (top e) = rw e
   way-root (hop e w) = rw e (way-root w)
 
-  pub way-self : {u : ℕ} {r : List ℕ} → Way t u r → has u r ≡ true
+  way-self : {u : ℕ} {r : List ℕ} → Way t u r → has u r ≡ true
   way-self (top {u} e) = has-head u []
   way-self (hop {u} {r} e w) = has-head u r
 

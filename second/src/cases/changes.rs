@@ -75,8 +75,9 @@ fn harbour_changes() -> Vec<Words> {
 /// the refused ones: tree link, bad mark, no such link.
 fn every_change(rows: &Rows, links: usize) -> Vec<Words> {
     let net = rows.lend();
-    let Ok(tree) = check(&net, WHOLE) else {
-        return Vec::new();
+    let tree = match check(&net, WHOLE) {
+        Ok(tree) => tree,
+        Err(_) => return Vec::new(),
     };
     let m = net.m() as u16;
     let in_tree = |e: &u16| rows.parents.contains(e);

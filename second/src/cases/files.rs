@@ -60,9 +60,11 @@ fn rooms() -> Vec<Case> {
     for named in small().into_iter().take(8) {
         let lent = sound_file(&named.rows, WHOLE);
         for row in 0..3 {
-            for more in [-1, 1, 3, 7, 100] {
+            let room = lent.rooms[row];
+            let short = room.saturating_sub(1);
+            for other_room in [short, room + 1, room + 3, room + 7, room + 100] {
                 let mut other = lent.clone();
-                other.rooms[row] = lent.rooms[row].saturating_add_signed(more);
+                other.rooms[row] = other_room;
                 cases.push(case(&other));
             }
         }

@@ -9,17 +9,23 @@ use std::process::ExitCode;
 
 fn main() -> ExitCode {
     let words: Vec<OsString> = std::env::args_os().skip(1).collect();
-    let (name, measure) = match &words[..] {
-        [name, measure] => (Path::new(name), place_of(&measure.to_string_lossy())),
-        _ => (Path::new(""), None),
-    };
-    let Some(measure) = measure else {
-        eprintln!("usage: load FILE sum|incr|max");
-        return ExitCode::from(2);
-    };
-    let Ok(file) = read_file(name) else {
-        eprintln!("{}: cannot be read", name.display());
-        return ExitCode::from(2);
+    if let [name, measure] = &words[..] {
+        if let Some(place) = place_of(&measure.to_string_lossy()) {
+            return run(Path::new(name), place);
+        }
+    }
+    eprintln!("usage: load FILE sum|incr|max");
+    ExitCode::from(2)
+}
+
+/// Loads a file, or says why not.
+fn run(name: &Path, measure: usize) -> ExitCode {
+    let file = match read_file(name) {
+        Ok(file) => file,
+        Err(_) => {
+            eprintln!("{}: cannot be read", name.display());
+            return ExitCode::from(2);
+        }
     };
     match load(&file, measure) {
         Ok(Ok(())) => ExitCode::SUCCESS,

@@ -1,14 +1,14 @@
--- `listing::links_of` meets its contract. Assumes nothing.
+-- `network::first_links` meets its contract. Assumes nothing.
 use native.Mathlib.Omega.{arith}
 use borrow.Author.Needs.{needs}
 use borrow.Author.Tests.{lt-ltb, le-ltb}
 use Rattle.edition.specs.Limits.{linkLimit}
-use Rattle.listing.specs.Listed.{firstLinks}
-use Rattle.listing.proofs.links_of.Statement.{statement}
-use Rattle.listing.proofs.links_of.Tie as tie
+use Rattle.network.specs.Part.{firstRecords}
+use Rattle.network.proofs.first_links.Statement.{statement}
+use Rattle.network.proofs.first_links.Tie as tie
 
 returns : tie.Need-returns
-unfolding firstLinks
+unfolding firstRecords
 returns c = rw (lt-ltb linkLimit (c .before .before .args .m) (omega arith))
 
 mul-first : tie.Need-mul-first
@@ -18,8 +18,8 @@ first-requires : tie.Need-first-requires
 first-requires c κs = search needs
 
 returns-2 : tie.Need-returns-2
-unfolding firstLinks
+unfolding firstRecords
 returns-2 c = rw (le-ltb linkLimit (c .before .before .before .args .m) (omega arith)) (c .first .ensures)
 
-pub links-of-spec : {M : Type 1} → statement M
-links-of-spec = tie.close (tie.spec returns mul-first first-requires returns-2)
+pub first-links-spec : {M : Type 1} → statement M
+first-links-spec = tie.close (tie.spec returns mul-first first-requires returns-2)
