@@ -11,7 +11,7 @@ use Rattle.edition.specs.declared.Refusal.{Refusal}
 use Rattle.edition.specs.declared.Verdict.{Verdict}
 use Rattle.edition.specs.declared.Verdict.the-variants.{Taken, Refused}
 use Rattle.edition.specs.declared.Why.the-variants.{NodeCount, LinkCount, BadLength, NoRoom, BadEntry}
-use Rattle.edition.specs.Stored.{editionLimits, blockBytes}
+use Rattle.edition.specs.Stored.{storedNodes, storedLinks, editionLimits, blockBytes}
 use Rattle.rows.specs.First.{refuseIf, refuseAt, firstly, verdictTo}
 use Rattle.rows.proofs.Refusing.{head-taken, rest-taken, head-refuses, head-passes, only-one, if-taken}
 use Rattle.rows.proofs.Tests.{or-false}
@@ -34,14 +34,14 @@ pub sizes-taken : (file : List ℕ) → headVerdict file ≡ Taken → sizeVerdi
 unfolding headVerdict
 sizes-taken file t = head-taken _ _ (rest-taken _ _ (rest-taken _ _ t))
 
-few-nodes : (file : List ℕ) → headVerdict file ≡ Taken → nodesRead file ≤ 512
+few-nodes : (file : List ℕ) → headVerdict file ≡ Taken → nodesRead file ≤ storedNodes
 unfolding sizeVerdict badNodes
 few-nodes file t =
-    ltb-false 512 (nodesRead file) (or-false (eqb (nodesRead file) 0) (ltb 512 (nodesRead file)) (if-taken _ NodeCount 0 (head-taken _ _ (sizes-taken file t))) .1)
+    ltb-false storedNodes (nodesRead file) (or-false (eqb (nodesRead file) 0) (ltb storedNodes (nodesRead file)) (if-taken _ NodeCount 0 (head-taken _ _ (sizes-taken file t))) .1)
 
-few-links : (file : List ℕ) → headVerdict file ≡ Taken → linksRead file ≤ 2048
+few-links : (file : List ℕ) → headVerdict file ≡ Taken → linksRead file ≤ storedLinks
 unfolding sizeVerdict badLinks
-few-links file t = ltb-false 2048 (linksRead file) (if-taken _ LinkCount 0 (head-taken _ _ (rest-taken _ _ (sizes-taken file t))))
+few-links file t = ltb-false storedLinks (linksRead file) (if-taken _ LinkCount 0 (head-taken _ _ (rest-taken _ _ (sizes-taken file t))))
 
 searched : (file : List ℕ) → sizeVerdict editionLimits (nodesRead file) (linksRead file) (searchRead file) ≡ Taken → sizeVerdict editionLimits (nodesRead file) (linksRead file) (netRead file .search) ≡ Taken
 unfolding netRead netOf

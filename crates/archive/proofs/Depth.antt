@@ -8,7 +8,7 @@ use borrow.Author.Tests.{eqb-true, ltb-false, not-false}
 use Rattle.edition.specs.declared.Verdict.the-variants.{Taken}
 use Rattle.edition.specs.declared.Why.the-variants.{BadDepth}
 use Rattle.edition.specs.Limits.{wholeSearch}
-use Rattle.edition.specs.Stored.{editionLimits}
+use Rattle.edition.specs.Stored.{editionLimits, storedDepth}
 use Rattle.rows.proofs.Refusing.{head-taken, rest-taken, if-taken}
 use Rattle.edition.specs.declared.Search.{Search}
 use Rattle.network.specs.Network.{Net, netOf}
@@ -19,14 +19,14 @@ use Rattle.network.specs.Records.{badDepth, sizeVerdict}
 use Rattle.block.specs.Bytes.{numberIn}
 use Rattle.archive.specs.Reader.{searchRead, netRead, Rows, headVerdict, readVerdict}
 
--- a depth that is not bad is the whole search or at most 510
-depth-cases : (depth : ℕ) → badDepth editionLimits depth ≡ false → (depth ≡ wholeSearch → ⊥) → depth ≤ 510
+-- a depth that is not bad is the whole search or at most the limit
+depth-cases : (depth : ℕ) → badDepth editionLimits depth ≡ false → (depth ≡ wholeSearch → ⊥) → depth ≤ storedDepth
 unfolding badDepth
-depth-cases depth h other = go (ltb 510 depth) refl
+depth-cases depth h other = go (ltb storedDepth depth) refl
   where
-    go : (b : Bool) → ltb 510 depth ≡ b → depth ≤ 510
+    go : (b : Bool) → ltb storedDepth depth ≡ b → depth ≤ storedDepth
     go true e = absurd (other (eqb-true depth wholeSearch (not-false _ (rw e at h))))
-    go false e = ltb-false 510 depth e
+    go false e = ltb-false storedDepth depth e
 
 module _ (file : List ℕ) (rows : Rows) (h : readVerdict file rows ≡ Taken) where
   -- the depth of the network read is what stands in bytes 14 and 15
@@ -35,12 +35,12 @@ module _ (file : List ℕ) (rows : Rows) (h : readVerdict file rows ≡ Taken) w
   depth-read = refl
 
   -- it is the whole search exactly where 65,535 stands there
-  pub whole-read : (searchRead file .depth ≡ wholeSearch → numberIn file 14 2 ≡ 65535) × (numberIn file 14 2 ≡ 65535 → searchRead file .depth ≡ wholeSearch)
+  pub whole-read : (searchRead file .depth ≡ wholeSearch → numberIn file 14 2 ≡ wholeSearch) × (numberIn file 14 2 ≡ wholeSearch → searchRead file .depth ≡ wholeSearch)
   unfolding searchRead
   whole-read = (λ e. e, λ e. e)
 
-  -- what else stands there is at most 510
-  pub depth-limited : (numberIn file 14 2 ≡ 65535 → ⊥) → numberIn file 14 2 ≤ 510
+  -- what else stands there is at most the limit
+  pub depth-limited : (numberIn file 14 2 ≡ wholeSearch → ⊥) → numberIn file 14 2 ≤ storedDepth
   unfolding readVerdict headVerdict sizeVerdict searchRead
   depth-limited other =
       let sizes = head-taken _ _ (rest-taken _ _ (rest-taken _ _ (head-taken _ _ h))) in
@@ -54,8 +54,8 @@ pub no-blank-depth :
     → netVerdict g ≡ Taken
     → (searchRead (fileOf g) .depth ≡ g .search .depth)
     × (numberIn (fileOf g) 14 2 ≡ g .search .depth)
-    × (g .search .depth ≡ wholeSearch → numberIn (fileOf g) 14 2 ≡ 65535)
-    × (numberIn (fileOf g) 14 2 ≡ 65535 → g .search .depth ≡ wholeSearch)
+    × (g .search .depth ≡ wholeSearch → numberIn (fileOf g) 14 2 ≡ wholeSearch)
+    × (numberIn (fileOf g) 14 2 ≡ wholeSearch → g .search .depth ≡ wholeSearch)
 unfolding searchRead
 no-blank-depth g ok =
     let same : numberIn (fileOf g) 14 2 ≡ g .search .depth = ap (λ (s : Search). s .depth) (depth-written g ok) in

@@ -11,7 +11,7 @@ use borrow.Author.Tests.{ltb-false}
 use Rattle.edition.specs.declared.Verdict.{Verdict}
 use Rattle.edition.specs.declared.Why.the-variants.{NodeCount, LinkCount}
 use Rattle.edition.specs.Limits.{linkWidth}
-use Rattle.edition.specs.Stored.{blockBytes, entryBytes}
+use Rattle.edition.specs.Stored.{storedNodes, storedLinks, blockBytes, entryBytes}
 use Rattle.rows.specs.Count.{rowsTo, rowWith}
 use Rattle.rows.proofs.Records.{rows-length}
 use Rattle.rows.proofs.Refusing.{head-taken, rest-taken, if-taken}
@@ -86,14 +86,14 @@ module _ (file : List ℕ) (head : Header) (b : Blocked file head) where
   unfolding headRead
   search-is = ap (λ (h : Header). h .search) (b .is)
 
-  pub few-nodes : head .nodes ≤ 512
+  pub few-nodes : head .nodes ≤ storedNodes
   unfolding sizeVerdict badNodes
   few-nodes =
-      omega (arith, nodes-is, ltb-false 512 (nodesRead file) (or-false (eqb (nodesRead file) 0) (ltb 512 (nodesRead file)) (if-taken _ NodeCount 0 (head-taken _ _ (b .sized))) .1))
+      omega (arith, nodes-is, ltb-false storedNodes (nodesRead file) (or-false (eqb (nodesRead file) 0) (ltb storedNodes (nodesRead file)) (if-taken _ NodeCount 0 (head-taken _ _ (b .sized))) .1))
 
-  pub few-links : head .links ≤ 2048
+  pub few-links : head .links ≤ storedLinks
   unfolding sizeVerdict badLinks
-  few-links = omega (arith, links-is, ltb-false 2048 (linksRead file) (if-taken _ LinkCount 0 (head-taken _ _ (rest-taken _ _ (b .sized)))))
+  few-links = omega (arith, links-is, ltb-false storedLinks (linksRead file) (if-taken _ LinkCount 0 (head-taken _ _ (rest-taken _ _ (b .sized)))))
 
   -- a row that was filled, as the definitions say it
   pub links-filled : (before row : List ℕ) → row ≡ rowWith (linkNumber file) (head .links * linkWidth) before → row ≡ linkRow file ++ drop (linksRead file * linkWidth) before

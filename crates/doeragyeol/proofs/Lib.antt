@@ -2,3 +2,4 @@ pub mod Putting
 pub mod Telling
 pub mod Answering
 pub mod Words
+pub mod Places

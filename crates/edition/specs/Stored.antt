@@ -6,9 +6,18 @@ use Rattle.edition.specs.declared.Limits.{Limits}
 abbrev pub editionOne : ℕ
 editionOne = 1
 
--- What an edition 1 file can hold.
+-- What an edition 1 file can hold: nodes, links, and the largest depth.
+abbrev pub storedNodes : ℕ
+storedNodes = 512
+
+abbrev pub storedLinks : ℕ
+storedLinks = 2048
+
+abbrev pub storedDepth : ℕ
+storedDepth = 510
+
 abbrev pub editionLimits : Limits
-editionLimits = record { nodes = 512; links = 2048; depth = 510 }
+editionLimits = record { nodes = storedNodes; links = storedLinks; depth = storedDepth }
 
 -- A block is 512 bytes: 8 in front, then the payload.
 abbrev pub blockBytes : ℕ

@@ -12,6 +12,7 @@ use Rattle.rows.proofs.Listed.{set-swap}
 use Rattle.block.specs.Bytes.{bytesOf}
 use Rattle.edition.specs.declared.Entry.{Entry}
 use Rattle.edition.specs.declared.Search.{Search}
+use Rattle.edition.specs.Stored.{headerBytes, linkBytes, entryBytes}
 use Rattle.network.specs.declared.Link.{Link}
 use Rattle.record.specs.Record.{headerRecord, linkRecord, entryRecord, recordPut}
 
@@ -144,14 +145,14 @@ entry-joined parent e at before one two after p q r =
     let links-size : length links ≡ 8 = omega (arith, length-append (bytesOf 2 (e .sum .link) ++ bytesOf 2 (e .incr .link) ++ bytesOf 2 (e .max .link)) (bytesOf 2 0), three-size 2 2 2 (e .sum .link) (e .incr .link) (e .max .link), bytes-length 2 0) in
     let head : Put before at 4 front one = record { is = p; size = three-size 2 1 1 parent (e .state) 0 } in
     let body : Put before at 12 (front ++ links) two = put-more before at 4 front one (at + 4) 8 links two head (record { is = q; size = links-size }) refl in
-    let whole : Put before at 28 (front ++ links ++ costs) after = put-more before at 12 (front ++ links) two (at + 12) 16 costs after body (record { is = r; size = three-size 8 4 4 (e .sum .cost) (e .incr .cost) (e .max .cost) }) refl in
+    let whole : Put before at entryBytes (front ++ links ++ costs) after = put-more before at 12 (front ++ links) two (at + 12) 16 costs after body (record { is = r; size = three-size 8 4 4 (e .sum .cost) (e .incr .cost) (e .max .cost) }) refl in
     whole .is
     ∙ ap (sets before at)
     (three (front ++ links) (bytesOf 8 (e .sum .cost)) (bytesOf 4 (e .incr .cost)) (bytesOf 4 (e .max .cost))
     ∙ ap (λ (s : List ℕ). s ++ bytesOf 8 (e .sum .cost) ++ bytesOf 4 (e .incr .cost) ++ bytesOf 4 (e .max .cost))
     (four front (bytesOf 2 (e .sum .link)) (bytesOf 2 (e .incr .link)) (bytesOf 2 (e .max .link)) (bytesOf 2 0)))
 
-pub entry-size : (parent : ℕ) (e : Entry) → length (entryRecord parent e) ≡ 28
+pub entry-size : (parent : ℕ) (e : Entry) → length (entryRecord parent e) ≡ entryBytes
 unfolding entryRecord
 entry-size parent e =
     omega (
@@ -177,10 +178,10 @@ four-size : (a b c d : ℕ) → length (bytesOf 2 a ++ bytesOf 2 b ++ bytesOf 2 
 four-size a b c d =
     omega (arith, length-append (bytesOf 2 a ++ bytesOf 2 b ++ bytesOf 2 c) (bytesOf 2 d), three-size 2 2 2 a b c, bytes-length 2 d)
 
-pub header-size : (n m : ℕ) (search : Search) → length (headerRecord n m search) ≡ 8
+pub header-size : (n m : ℕ) (search : Search) → length (headerRecord n m search) ≡ headerBytes
 unfolding headerRecord
 header-size n m search = four-size n m (search .root) (search .depth)
 
-pub link-size : (l : Link) → length (linkRecord l) ≡ 8
+pub link-size : (l : Link) → length (linkRecord l) ≡ linkBytes
 unfolding linkRecord
 link-size l = four-size (l .first) (l .second) (l .length) (l .mark)

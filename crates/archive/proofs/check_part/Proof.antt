@@ -3,6 +3,7 @@ use native.Mathlib.Omega.{arith}
 use Prim.Native.Nat.{_-_, _*_, _+_}
 use Rattle.archive.proofs.Parting.{part-small}
 use Rattle.archive.proofs.Judging.{part-refusal}
+use Rattle.edition.specs.Stored.{blockBytes}
 use borrow.Author.Needs.{needs}
 use Rattle.archive.proofs.check_part.Statement.{statement}
 use Rattle.archive.proofs.check_part.Tie as tie
@@ -35,7 +36,7 @@ check-block-requires : tie.Need-check-block-requires
 check-block-requires c κs = search needs
 
 returns : tie.Need-returns
-returns c = part-refusal _ _ _ _ _ (c .before .before .before .part-at .ensures) (c .before .before .before .before .before .args .i * 512 + 512 - c .before .before .before .before .before .args .i * 512) (omega arith) _ (c .check-block .ensures)
+returns c = part-refusal _ _ _ _ _ (c .before .before .before .part-at .ensures) (c .before .before .before .before .before .args .i * blockBytes + blockBytes - c .before .before .before .before .before .args .i * blockBytes) (omega arith) _ (c .check-block .ensures)
 
 pub check-part-spec : {M : Type 1} → statement M
 check-part-spec =

@@ -2,6 +2,7 @@
 use native.Mathlib.Omega.{arith}
 use mathlib.Core.Path.{ap}
 use Prim.Native.Nat.{_+_, _*_, _/_, _%_}
+use Rattle.edition.specs.Stored.{blockBytes, frontBytes, entryBytes, entriesABlock}
 use Rattle.archive.specs.Parts.{entryPlace}
 use Rattle.archive.proofs.Parting.{some-blocks}
 use borrow.Author.Needs.{needs}
@@ -31,7 +32,7 @@ add-result-4 c = omega (arith, c .before .pre .1, some-blocks _ _ _ (c .blocks-f
 
 returns : tie.Need-returns
 unfolding entryPlace
-returns c = ap (λ k. (1 + k + c .before .args .x / 18) * 512 + 8 + c .before .args .x % 18 * 28) (c .blocks-for .ensures)
+returns c = ap (λ k. (1 + k + c .before .args .x / entriesABlock) * blockBytes + frontBytes + c .before .args .x % entriesABlock * entryBytes) (c .blocks-for .ensures)
 
 pub entry-place-spec : {M : Type 1} → statement M
 entry-place-spec =

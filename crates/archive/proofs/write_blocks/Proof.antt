@@ -7,6 +7,7 @@ use Rattle.network.specs.Network.{netOf, linksIn}
 use Rattle.archive.specs.Parts.{blockCount}
 use Rattle.archive.specs.Writer.{blockOf}
 use Rattle.archive.proofs.Files.{few-blocks, file-room, rows-sized, nodes-small, links-small, count-is, count-end, file-is}
+use Rattle.edition.specs.Stored.{blockBytes}
 use borrow.Author.Needs.{needs}
 use Rattle.archive.proofs.write_blocks.Statement.{statement}
 use Rattle.archive.proofs.write_blocks.Tie as tie
@@ -42,7 +43,7 @@ part-write-block-end : tie.Need-part-write-block-end Inv-loop μ-loop
 part-write-block-end c = filing-room _ _ _ (file-room _ _ _ _ (c .before .before .before .before .before .before .before .before .pre .1)) (rows-sized _ _ _ _ (c .before .before .before .before .before .before .before .before .pre .0)) _ _ (c .before .loop .inv) (count-is _ _ _ _ (c .before .before .before .links-in .ensures) (c .before .before .block-count .ensures) (c .loop-test .taken))
 
 write-block-requires : tie.Need-write-block-requires Inv-loop μ-loop
-write-block-requires c κs = (c .before .before .before .before .before .before .before .before .before .pre .0, count-is _ _ _ _ (c .before .before .before .before .links-in .ensures) (c .before .before .before .block-count .ensures) (c .before .loop-test .taken), part-length _ _ (c .before .before .loop .i * 512 + 512 - c .before .before .loop .i * 512) (omega arith) (filing-room _ _ _ (file-room _ _ _ _ (c .before .before .before .before .before .before .before .before .before .pre .1)) (rows-sized _ _ _ _ (c .before .before .before .before .before .before .before .before .before .pre .0)) _ _ (c .before .before .loop .inv) (count-is _ _ _ _ (c .before .before .before .before .links-in .ensures) (c .before .before .before .block-count .ensures) (c .before .loop-test .taken))))
+write-block-requires c κs = (c .before .before .before .before .before .before .before .before .before .pre .0, count-is _ _ _ _ (c .before .before .before .before .links-in .ensures) (c .before .before .before .block-count .ensures) (c .before .loop-test .taken), part-length _ _ (c .before .before .loop .i * blockBytes + blockBytes - c .before .before .loop .i * blockBytes) (omega arith) (filing-room _ _ _ (file-room _ _ _ _ (c .before .before .before .before .before .before .before .before .before .pre .1)) (rows-sized _ _ _ _ (c .before .before .before .before .before .before .before .before .before .pre .0)) _ _ (c .before .before .loop .inv) (count-is _ _ _ _ (c .before .before .before .before .links-in .ensures) (c .before .before .before .block-count .ensures) (c .before .loop-test .taken))))
 
 add-i : tie.Need-add-i Inv-loop μ-loop
 add-i c = search needs
@@ -51,7 +52,7 @@ loop-less : tie.Need-loop-less Inv-loop μ-loop
 loop-less c = search needs
 
 loop-again : tie.Need-loop-again Inv-loop μ-loop
-loop-again c = filing-more _ _ _ (file-room _ _ _ _ (c .before .before .before .before .before .before .before .before .before .before .before .before .pre .1)) (rows-sized _ _ _ _ (c .before .before .before .before .before .before .before .before .before .before .before .before .pre .0)) _ _ (c .before .before .before .before .before .loop .inv) (count-is _ _ _ _ (c .before .before .before .before .before .before .before .links-in .ensures) (c .before .before .before .before .before .before .block-count .ensures) (c .before .before .before .before .loop-test .taken)) _ (c .before .before .write-block .ensures) (c .before .before .before .before .before .loop .i * 512 + 512 - c .before .before .before .before .before .loop .i * 512) (omega arith)
+loop-again c = filing-more _ _ _ (file-room _ _ _ _ (c .before .before .before .before .before .before .before .before .before .before .before .before .pre .1)) (rows-sized _ _ _ _ (c .before .before .before .before .before .before .before .before .before .before .before .before .pre .0)) _ _ (c .before .before .before .before .before .loop .inv) (count-is _ _ _ _ (c .before .before .before .before .before .before .before .links-in .ensures) (c .before .before .before .before .before .before .block-count .ensures) (c .before .before .before .before .loop-test .taken)) _ (c .before .before .write-block .ensures) (c .before .before .before .before .before .loop .i * blockBytes + blockBytes - c .before .before .before .before .before .loop .i * blockBytes) (omega arith)
 
 same-length : tie.Need-same-length Inv-loop μ-loop
 same-length c = filing-length _ _ _ (file-room _ _ _ _ (c .before .before .before .before .before .before .before .before .pre .1)) (rows-sized _ _ _ _ (c .before .before .before .before .before .before .before .before .pre .0)) _ _ (c .before .loop .inv)

@@ -1,5 +1,6 @@
 -- `record::put_entry` meets its contract. Assumes nothing.
 use lib.ListN.{length}
+use Rattle.edition.specs.Stored.{entryBytes}
 use Rattle.record.proofs.Putting.{no-room, with-room, put-is, entry-joined}
 use native.Mathlib.Omega.{arith}
 use borrow.Author.Tests.{not-true, not-false}
@@ -17,19 +18,19 @@ returns : tie.Need-returns
 returns c = no-room _ _ _ _ _ (c .before .has-room .ensures) (not-true _ (c .if1 .taken))
 
 put-front-requires : tie.Need-put-front-requires
-put-front-requires c κs = omega (arith, with-room (c .before .before .before .before .before .before .before .before .args .at) 28 (length (c .before .before .before .before .before .before .before .before .args .bytes .now)) _ (c .before .before .before .before .before .has-room .ensures) (not-false _ (c .before .before .before .before .if1 .left)))
+put-front-requires c κs = omega (arith, with-room (c .before .before .before .before .before .before .before .before .args .at) entryBytes (length (c .before .before .before .before .before .before .before .before .args .bytes .now)) _ (c .before .before .before .before .before .has-room .ensures) (not-false _ (c .before .before .before .before .if1 .left)))
 
 add-put-four : tie.Need-add-put-four
-add-put-four c = omega (arith, with-room (c .before .before .before .before .before .before .before .before .before .before .before .before .args .at) 28 (length (c .before .before .before .before .before .before .before .before .before .before .before .before .args .bytes .now)) _ (c .before .before .before .before .before .before .before .before .before .has-room .ensures) (not-false _ (c .before .before .before .before .before .before .before .before .if1 .left)))
+add-put-four c = omega (arith, with-room (c .before .before .before .before .before .before .before .before .before .before .before .before .args .at) entryBytes (length (c .before .before .before .before .before .before .before .before .before .before .before .before .args .bytes .now)) _ (c .before .before .before .before .before .before .before .before .before .has-room .ensures) (not-false _ (c .before .before .before .before .before .before .before .before .if1 .left)))
 
 put-four-requires : tie.Need-put-four-requires
-put-four-requires c κs = omega (arith, with-room (c .before .before .before .before .before .before .before .before .before .before .before .before .args .at) 28 (length (c .before .before .before .before .before .before .before .before .before .before .before .before .args .bytes .now)) _ (c .before .before .before .before .before .before .before .before .before .has-room .ensures) (not-false _ (c .before .before .before .before .before .before .before .before .if1 .left)))
+put-four-requires c κs = omega (arith, with-room (c .before .before .before .before .before .before .before .before .before .before .before .before .args .at) entryBytes (length (c .before .before .before .before .before .before .before .before .before .before .before .before .args .bytes .now)) _ (c .before .before .before .before .before .before .before .before .before .has-room .ensures) (not-false _ (c .before .before .before .before .before .before .before .before .if1 .left)))
 
 add-put-costs : tie.Need-add-put-costs
-add-put-costs c = omega (arith, with-room (c .before .before .before .before .before .before .before .before .before .before .before .before .before .before .before .before .args .at) 28 (length (c .before .before .before .before .before .before .before .before .before .before .before .before .before .before .before .before .args .bytes .now)) _ (c .before .before .before .before .before .before .before .before .before .before .before .before .before .has-room .ensures) (not-false _ (c .before .before .before .before .before .before .before .before .before .before .before .before .if1 .left)))
+add-put-costs c = omega (arith, with-room (c .before .before .before .before .before .before .before .before .before .before .before .before .before .before .before .before .args .at) entryBytes (length (c .before .before .before .before .before .before .before .before .before .before .before .before .before .before .before .before .args .bytes .now)) _ (c .before .before .before .before .before .before .before .before .before .before .before .before .before .has-room .ensures) (not-false _ (c .before .before .before .before .before .before .before .before .before .before .before .before .if1 .left)))
 
 put-costs-requires : tie.Need-put-costs-requires
-put-costs-requires c κs = omega (arith, with-room (c .before .before .before .before .before .before .before .before .before .before .before .before .before .before .before .before .args .at) 28 (length (c .before .before .before .before .before .before .before .before .before .before .before .before .before .before .before .before .args .bytes .now)) _ (c .before .before .before .before .before .before .before .before .before .before .before .before .before .has-room .ensures) (not-false _ (c .before .before .before .before .before .before .before .before .before .before .before .before .if1 .left)))
+put-costs-requires c κs = omega (arith, with-room (c .before .before .before .before .before .before .before .before .before .before .before .before .before .before .before .before .args .at) entryBytes (length (c .before .before .before .before .before .before .before .before .before .before .before .before .before .before .before .before .args .bytes .now)) _ (c .before .before .before .before .before .before .before .before .before .before .before .before .before .has-room .ensures) (not-false _ (c .before .before .before .before .before .before .before .before .before .before .before .before .if1 .left)))
 
 same-length-2 : tie.Need-same-length-2
 same-length-2 c = search needs

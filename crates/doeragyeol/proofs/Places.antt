@@ -1,0 +1,195 @@
+-- Every refusal that a call from C answers has a place that the word holds, so that the word gives it back. Assumes nothing.
+use mathlib.Core.Path.{_≡_, refl}
+use mathlib.Core.Bool.{Bool, true, false}
+use mathlib.Core.List.{List, [], _∷_}
+use Prim.Native.Nat.{ℕ, zero, suc, _+_, _≤_, _<_, _%_}
+use native.Mathlib.Omega.{arith}
+use lib.Dec.{eqb, ltb, leb}
+use borrow.Author.Tests.{ltb-false, leb-false}
+use Rattle.edition.specs.declared.Change.{Change}
+use Rattle.edition.specs.declared.Found.{Found}
+use Rattle.edition.specs.declared.Found.the-variants.{Nothing, At}
+use Rattle.edition.specs.declared.Limits.{Limits}
+use Rattle.edition.specs.declared.Refusal.{Refusal}
+use Rattle.edition.specs.declared.Search.{Search}
+use Rattle.edition.specs.declared.Verdict.{Verdict}
+use Rattle.edition.specs.declared.Verdict.the-variants.{Taken, Refused}
+use Rattle.edition.specs.declared.Why.{Why}
+use Rattle.edition.specs.declared.Why.the-variants.{NodeCount, LinkCount, BadRoot, BadDepth, BadEnds, BadMark, BadParent, NoRoute, NotShort, NoRoom, LinkMissing, TreeLink, BreaksShort, BadLength, BadCheck, BadBlock, BadEntry}
+use Rattle.edition.specs.Limits.{memoryLimits}
+use Rattle.edition.specs.Stored.{editionLimits}
+use Rattle.rows.specs.First.{firstTo, refusedAt, refuseAt, refuseIf, firstly, verdictTo}
+use Rattle.rows.proofs.Best.{Lowest, here, first-is}
+use Rattle.rows.proofs.Refusing.{head-taken, rest-taken, if-taken}
+use Rattle.rows.proofs.Tests.{or-false}
+use Rattle.network.specs.Network.{Net}
+use Rattle.network.specs.Records.{badNodes, badLinks, sizeVerdict}
+use Rattle.sound.specs.Sound.{recordVerdict, netVerdict}
+use Rattle.table.specs.Table.{tableVerdict}
+use Rattle.map.specs.Map.{mapVerdict}
+use Rattle.change.specs.Change.{changeVerdict}
+use Rattle.block.specs.Block.{blockVerdict}
+use Rattle.archive.specs.Parts.{blocksFor, blockCount}
+use Rattle.archive.specs.Writer.{writeVerdict}
+use Rattle.archive.specs.Reader.{nodesRead, linksRead, searchRead, netRead, Rows, blockRefusal, headVerdict, restVerdict, readVerdict}
+use Rattle.archive.proofs.Reading.{nodes-read, links-read}
+use Rattle.doeragyeol.specs.Word.{placeMost, wordOf, roomFirst}
+use Rattle.doeragyeol.specs.Calls.{checkSaid, mapSaid, writeSaid, readSaid}
+use Rattle.doeragyeol.proofs.Words.{place-back}
+
+-- a verdict that has no place, or one that a word holds
+pub data Placed : Verdict → Type 0 where
+  taken : Placed Taken
+  placed : {r : Refusal} → r .place ≤ placeMost → Placed (Refused r)
+
+-- its word gives the place back
+pub word-place : (r : Refusal) → Placed (Refused r) → wordOf (Refused r) % (placeMost + 1) ≡ r .place
+word-place r (placed l) = place-back r l
+
+-- one law for each way a check is written
+if-placed : (b : Bool) (why : Why) (place : ℕ) → (b ≡ true → place ≤ placeMost) → Placed (refuseIf b why place)
+unfolding refuseIf
+if-placed true why place l = placed (l refl)
+if-placed false why place l = taken
+
+at-zero : (b : Bool) (why : Why) → Placed (refuseIf b why 0)
+at-zero b why = if-placed b why 0 (λ q. omega arith)
+
+at-placed : (p : ℕ → Bool) (k : ℕ) (why : Why) → k ≤ placeMost → Placed (refuseAt p k why)
+unfolding refuseAt refusedAt
+at-placed p k why l = go (firstTo p k) (first-is p k)
+  where
+    go : (f : Found) → Lowest p k f → Placed (refusedAt why f)
+    go Nothing n = taken
+    go (At e) (here low q n) = let fits : e ≤ placeMost = omega (arith, low, l) in placed fits
+
+end : Placed (firstly [])
+unfolding firstly
+end = taken
+
+next : (v : Verdict) (rest : List Verdict) → Placed v → (v ≡ Taken → Placed (firstly rest)) → Placed (firstly (v ∷ rest))
+unfolding firstly
+next Taken rest p q = q refl
+next (Refused r) rest p q = p
+
+to-placed : (f : ℕ → Verdict) (k : ℕ) → ((j : ℕ) → j < k → Placed (f j)) → Placed (verdictTo f k)
+unfolding verdictTo
+to-placed f zero h = taken
+to-placed f (suc k) h =
+    next _ _ (to-placed f k (λ j l. h j (omega (arith, l)))) (λ q. next _ _ (h k (omega arith)) (λ r. end))
+
+-- what 1 and 2 leave
+few-nodes : (most : Limits) (n m : ℕ) (search : Search) → sizeVerdict most n m search ≡ Taken → n ≤ most .nodes
+unfolding sizeVerdict badNodes
+few-nodes most n m search t =
+    ltb-false (most .nodes) n (or-false (eqb n 0) (ltb (most .nodes) n) (if-taken _ NodeCount 0 (head-taken _ _ t)) .1)
+
+few-links : (most : Limits) (n m : ℕ) (search : Search) → sizeVerdict most n m search ≡ Taken → m ≤ most .links
+unfolding sizeVerdict badLinks
+few-links most n m search t = ltb-false (most .links) m (if-taken _ LinkCount 0 (head-taken _ _ (rest-taken _ _ t)))
+
+-- 1 to 4, 5 to 9, and both
+sizes-placed : (most : Limits) (n m : ℕ) (search : Search) → Placed (sizeVerdict most n m search)
+unfolding sizeVerdict
+sizes-placed most n m search =
+    next _ _ (at-zero _ NodeCount)
+    (λ a. next _ _ (at-zero _ LinkCount)
+    (λ b. next _ _ (at-zero _ BadRoot)
+    (λ d. next _ _ (at-zero _ BadDepth) (λ e. end))))
+
+records-placed : (g : Net) → g .nodes ≤ placeMost → g .links ≤ placeMost → Placed (recordVerdict g)
+unfolding recordVerdict
+records-placed g n m =
+    next _ _ (at-placed _ (g .links) BadEnds m)
+    (λ a. next _ _ (at-placed _ (g .links) BadMark m)
+    (λ b. next _ _ (at-placed _ (g .nodes) BadParent n)
+    (λ d. next _ _ (at-placed _ (g .nodes) NoRoute n)
+    (λ e. next _ _ (at-placed _ (g .links) NotShort m) (λ f. end)))))
+
+net-placed : (g : Net) → Placed (netVerdict g)
+unfolding netVerdict
+net-placed g =
+    next _ _ (sizes-placed memoryLimits (g .nodes) (g .links) (g .search))
+    (λ t. next _ _ (records-placed g (omega (arith, few-nodes memoryLimits _ _ _ t)) (omega (arith, few-links memoryLimits _ _ _ t))) (λ a. end))
+
+-- 1 to 9 and then a room
+roomed : (g : Net) (b : Bool) → Placed (firstly (netVerdict g ∷ refuseIf b NoRoom 0 ∷ []))
+roomed g b = next _ _ (net-placed g) (λ a. next _ _ (at-zero b NoRoom) (λ d. end))
+
+-- a room for values and then the rest
+first-placed : (n : ℕ) (row : List ℕ) (v : Verdict) → Placed v → Placed (roomFirst n row v)
+unfolding roomFirst
+first-placed n row v p = next _ _ (at-zero _ NoRoom) (λ a. next _ _ p (λ b. end))
+
+-- the six calls
+pub check-placed : (g : Net) (row : List ℕ) → Placed (checkSaid g row)
+unfolding checkSaid
+check-placed g row = first-placed 2 row (netVerdict g) (net-placed g)
+
+pub table-placed : (g : Net) (row : List ℕ) → Placed (tableVerdict g row)
+unfolding tableVerdict
+table-placed g row = roomed g _
+
+pub map-placed : (g : Net) (words row : List ℕ) → Placed (mapSaid g words row)
+unfolding mapSaid mapVerdict
+map-placed g words row = first-placed 2 row (mapVerdict g words) (roomed g _)
+
+-- a link that 11 leaves
+there-placed : (g : Net) (entries : List ℕ) (e : ℕ) → tableVerdict g entries ≡ Taken → refuseIf (leb (g .links) e) LinkMissing 0 ≡ Taken → e ≤ placeMost
+unfolding tableVerdict netVerdict
+there-placed g entries e t there =
+    omega (arith, few-links memoryLimits _ _ _ (head-taken _ _ (head-taken _ _ t)), leb-false (g .links) e (if-taken _ LinkMissing 0 there))
+
+pub change-placed : (g : Net) (entries : List ℕ) (c : Change) → Placed (changeVerdict g entries c)
+unfolding changeVerdict
+change-placed g entries c =
+    next _ _ (table-placed g entries)
+    (λ t. next _ _ (at-zero _ LinkMissing)
+    (λ there. next _ _ (if-placed _ BadMark (c .link) (λ q. there-placed g entries (c .link) t there))
+    (λ b. next _ _ (if-placed _ TreeLink (c .link) (λ q. there-placed g entries (c .link) t there))
+    (λ d. next _ _ (if-placed _ BreaksShort (c .link) (λ q. there-placed g entries (c .link) t there)) (λ e. end)))))
+
+pub write-placed : (g : Net) (file row : List ℕ) → Placed (writeSaid g file row)
+unfolding writeSaid writeVerdict
+write-placed g file row = first-placed 1 row (writeVerdict g file) (roomed g _)
+
+-- a block, asked for by a number that a word holds
+block-placed : (file : List ℕ) (n m i : ℕ) → i ≤ placeMost → Placed (blockRefusal file n m i)
+unfolding blockRefusal blockVerdict
+block-placed file n m i l =
+    next _ _ (at-zero _ BadLength)
+    (λ a. next _ _ (if-placed _ BadCheck i (λ q. l)) (λ b. next _ _ (if-placed _ BadBlock i (λ q. l)) (λ d. end)))
+
+module _ (file : List ℕ) (rows : Rows) where
+  head-placed : Placed (headVerdict file)
+  unfolding headVerdict
+  head-placed =
+      next _ _ (at-zero _ BadLength)
+      (λ a. next _ _ (block-placed file 0 0 0 (omega arith))
+      (λ b. next _ _ (sizes-placed editionLimits (nodesRead file) (linksRead file) (searchRead file)) (λ d. end)))
+
+  module _ (t : headVerdict file ≡ Taken) where
+    nodes-few : nodesRead file ≤ editionLimits .nodes
+    unfolding headVerdict
+    nodes-few = few-nodes editionLimits _ _ _ (head-taken _ _ (rest-taken _ _ (rest-taken _ _ t)))
+
+    links-few : linksRead file ≤ editionLimits .links
+    unfolding headVerdict
+    links-few = few-links editionLimits _ _ _ (head-taken _ _ (rest-taken _ _ (rest-taken _ _ t)))
+
+    blocks-few : (i : ℕ) → i < blockCount (nodesRead file) (linksRead file) → i ≤ placeMost
+    unfolding blockCount blocksFor
+    blocks-few i l = omega (arith, l, nodes-few, links-few)
+
+    rest-placed : Placed (restVerdict file rows)
+    unfolding restVerdict
+    rest-placed =
+        next _ _ (at-zero _ BadLength)
+        (λ a. next _ _ (to-placed _ _ (λ i l. block-placed file (nodesRead file) (linksRead file) i (blocks-few i l)))
+        (λ b. next _ _ (records-placed (netRead file) (omega (arith, nodes-read file, nodes-few)) (omega (arith, links-read file, links-few)))
+        (λ d. next _ _ (at-zero _ NoRoom)
+        (λ e. next _ _ (at-placed _ (nodesRead file) BadEntry (omega (arith, nodes-few))) (λ f. end)))))
+
+  pub read-placed : (row : List ℕ) → Placed (readSaid file rows row)
+  unfolding readSaid readVerdict
+  read-placed row = first-placed 4 row (readVerdict file rows) (next _ _ head-placed (λ t. next _ _ (rest-placed t) (λ a. end)))
