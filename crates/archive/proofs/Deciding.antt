@@ -4,19 +4,19 @@ use mathlib.Core.Bool.{Bool, not}
 use mathlib.Core.List.{List, [], _∷_}
 use Prim.Native.Nat.{ℕ, _*_, _≤_}
 use native.Mathlib.Omega.{arith}
-use lib.Dec.{eqb, ltb}
+use lib.Dec.{eqb}
 use lib.ListN.{length}
-use borrow.Author.Tests.{ltb-false, eqb-true, not-false}
+use borrow.Author.Tests.{eqb-true, not-false}
 use Rattle.edition.specs.declared.Refusal.{Refusal}
 use Rattle.edition.specs.declared.Verdict.{Verdict}
 use Rattle.edition.specs.declared.Verdict.the-variants.{Taken, Refused}
-use Rattle.edition.specs.declared.Why.the-variants.{NodeCount, LinkCount, BadLength, NoRoom, BadEntry}
+use Rattle.edition.specs.declared.Why.the-variants.{BadLength, NoRoom, BadEntry}
 use Rattle.edition.specs.Stored.{storedNodes, storedLinks, editionLimits, blockBytes}
 use Rattle.rows.specs.First.{refuseIf, refuseAt, firstly, verdictTo}
 use Rattle.rows.proofs.Refusing.{head-taken, rest-taken, head-refuses, head-passes, only-one, if-taken}
-use Rattle.rows.proofs.Tests.{or-false}
 use Rattle.network.specs.Network.{netOf}
-use Rattle.network.specs.Records.{badNodes, badLinks, sizeVerdict}
+use Rattle.network.specs.Records.{sizeVerdict}
+use Rattle.network.proofs.Sizes.{sized-nodes, sized-links}
 use Rattle.sound.specs.Sound.{recordVerdict, netVerdict}
 use Rattle.block.specs.Bytes.{wordMost}
 use Rattle.archive.specs.declared.Header.{Header}
@@ -35,13 +35,10 @@ unfolding headVerdict
 sizes-taken file t = head-taken _ _ (rest-taken _ _ (rest-taken _ _ t))
 
 few-nodes : (file : List ℕ) → headVerdict file ≡ Taken → nodesRead file ≤ storedNodes
-unfolding sizeVerdict badNodes
-few-nodes file t =
-    ltb-false storedNodes (nodesRead file) (or-false (eqb (nodesRead file) 0) (ltb storedNodes (nodesRead file)) (if-taken _ NodeCount 0 (head-taken _ _ (sizes-taken file t))) .1)
+few-nodes file t = sized-nodes editionLimits _ _ _ (sizes-taken file t)
 
 few-links : (file : List ℕ) → headVerdict file ≡ Taken → linksRead file ≤ storedLinks
-unfolding sizeVerdict badLinks
-few-links file t = ltb-false storedLinks (linksRead file) (if-taken _ LinkCount 0 (head-taken _ _ (rest-taken _ _ (sizes-taken file t))))
+few-links file t = sized-links editionLimits _ _ _ (sizes-taken file t)
 
 searched : (file : List ℕ) → sizeVerdict editionLimits (nodesRead file) (linksRead file) (searchRead file) ≡ Taken → sizeVerdict editionLimits (nodesRead file) (linksRead file) (netRead file .search) ≡ Taken
 unfolding netRead netOf

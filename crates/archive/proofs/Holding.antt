@@ -4,20 +4,15 @@ use mathlib.Core.Bool.{Bool}
 use mathlib.Core.List.{List, [], _∷_, _++_, append-assoc}
 use Prim.Native.Nat.{ℕ, zero, suc, _+_, _*_, _/_, _%_, _<_, _≤_}
 use native.Mathlib.Omega.{arith}
-use lib.Dec.{eqb, ltb}
 use lib.ListN.{length, take, drop}
 use lib.Seq.{take-at}
-use borrow.Author.Tests.{ltb-false}
 use Rattle.edition.specs.declared.Verdict.{Verdict}
-use Rattle.edition.specs.declared.Why.the-variants.{NodeCount, LinkCount}
 use Rattle.edition.specs.Limits.{linkWidth}
-use Rattle.edition.specs.Stored.{storedNodes, storedLinks, blockBytes, entryBytes}
+use Rattle.edition.specs.Stored.{storedNodes, storedLinks, editionLimits, blockBytes, entryBytes}
 use Rattle.rows.specs.Count.{rowsTo, rowWith}
 use Rattle.rows.proofs.Records.{rows-length}
-use Rattle.rows.proofs.Refusing.{head-taken, rest-taken, if-taken}
-use Rattle.rows.proofs.Tests.{or-false}
 use Rattle.network.specs.Network.{linksIn, netOf}
-use Rattle.network.specs.Records.{badNodes, badLinks, sizeVerdict}
+use Rattle.network.proofs.Sizes.{sized-nodes, sized-links}
 use Rattle.block.specs.Bytes.{numberIn}
 use Rattle.archive.specs.declared.Header.{Header}
 use Rattle.archive.specs.Parts.{blocksFor, blockCount, linkPlace, entryPlace}
@@ -87,13 +82,10 @@ module _ (file : List ℕ) (head : Header) (b : Blocked file head) where
   search-is = ap (λ (h : Header). h .search) (b .is)
 
   pub few-nodes : head .nodes ≤ storedNodes
-  unfolding sizeVerdict badNodes
-  few-nodes =
-      omega (arith, nodes-is, ltb-false storedNodes (nodesRead file) (or-false (eqb (nodesRead file) 0) (ltb storedNodes (nodesRead file)) (if-taken _ NodeCount 0 (head-taken _ _ (b .sized))) .1))
+  few-nodes = omega (arith, nodes-is, sized-nodes editionLimits _ _ _ (b .sized))
 
   pub few-links : head .links ≤ storedLinks
-  unfolding sizeVerdict badLinks
-  few-links = omega (arith, links-is, ltb-false storedLinks (linksRead file) (if-taken _ LinkCount 0 (head-taken _ _ (rest-taken _ _ (b .sized)))))
+  few-links = omega (arith, links-is, sized-links editionLimits _ _ _ (b .sized))
 
   -- a row that was filled, as the definitions say it
   pub links-filled : (before row : List ℕ) → row ≡ rowWith (linkNumber file) (head .links * linkWidth) before → row ≡ linkRow file ++ drop (linksRead file * linkWidth) before

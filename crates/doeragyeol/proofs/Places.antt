@@ -4,8 +4,8 @@ use mathlib.Core.Bool.{Bool, true, false}
 use mathlib.Core.List.{List, [], _∷_}
 use Prim.Native.Nat.{ℕ, zero, suc, _+_, _≤_, _<_, _%_}
 use native.Mathlib.Omega.{arith}
-use lib.Dec.{eqb, ltb, leb}
-use borrow.Author.Tests.{ltb-false, leb-false}
+use lib.Dec.{leb}
+use borrow.Author.Tests.{leb-false}
 use Rattle.edition.specs.declared.Change.{Change}
 use Rattle.edition.specs.declared.Found.{Found}
 use Rattle.edition.specs.declared.Found.the-variants.{Nothing, At}
@@ -21,9 +21,9 @@ use Rattle.edition.specs.Stored.{editionLimits}
 use Rattle.rows.specs.First.{firstTo, refusedAt, refuseAt, refuseIf, firstly, verdictTo}
 use Rattle.rows.proofs.Best.{Lowest, here, first-is}
 use Rattle.rows.proofs.Refusing.{head-taken, rest-taken, if-taken}
-use Rattle.rows.proofs.Tests.{or-false}
 use Rattle.network.specs.Network.{Net}
-use Rattle.network.specs.Records.{badNodes, badLinks, sizeVerdict}
+use Rattle.network.specs.Records.{sizeVerdict}
+use Rattle.network.proofs.Sizes.{sized-nodes, sized-links}
 use Rattle.sound.specs.Sound.{recordVerdict, netVerdict}
 use Rattle.table.specs.Table.{tableVerdict}
 use Rattle.map.specs.Map.{mapVerdict}
@@ -78,16 +78,6 @@ to-placed f zero h = taken
 to-placed f (suc k) h =
     next _ _ (to-placed f k (λ j l. h j (omega (arith, l)))) (λ q. next _ _ (h k (omega arith)) (λ r. end))
 
--- what 1 and 2 leave
-few-nodes : (most : Limits) (n m : ℕ) (search : Search) → sizeVerdict most n m search ≡ Taken → n ≤ most .nodes
-unfolding sizeVerdict badNodes
-few-nodes most n m search t =
-    ltb-false (most .nodes) n (or-false (eqb n 0) (ltb (most .nodes) n) (if-taken _ NodeCount 0 (head-taken _ _ t)) .1)
-
-few-links : (most : Limits) (n m : ℕ) (search : Search) → sizeVerdict most n m search ≡ Taken → m ≤ most .links
-unfolding sizeVerdict badLinks
-few-links most n m search t = ltb-false (most .links) m (if-taken _ LinkCount 0 (head-taken _ _ (rest-taken _ _ t)))
-
 -- 1 to 4, 5 to 9, and both
 sizes-placed : (most : Limits) (n m : ℕ) (search : Search) → Placed (sizeVerdict most n m search)
 unfolding sizeVerdict
@@ -110,7 +100,7 @@ net-placed : (g : Net) → Placed (netVerdict g)
 unfolding netVerdict
 net-placed g =
     next _ _ (sizes-placed memoryLimits (g .nodes) (g .links) (g .search))
-    (λ t. next _ _ (records-placed g (omega (arith, few-nodes memoryLimits _ _ _ t)) (omega (arith, few-links memoryLimits _ _ _ t))) (λ a. end))
+    (λ t. next _ _ (records-placed g (omega (arith, sized-nodes memoryLimits _ _ _ t)) (omega (arith, sized-links memoryLimits _ _ _ t))) (λ a. end))
 
 -- 1 to 9 and then a room
 roomed : (g : Net) (b : Bool) → Placed (firstly (netVerdict g ∷ refuseIf b NoRoom 0 ∷ []))
@@ -138,7 +128,7 @@ map-placed g words row = first-placed 2 row (mapVerdict g words) (roomed g _)
 there-placed : (g : Net) (entries : List ℕ) (e : ℕ) → tableVerdict g entries ≡ Taken → refuseIf (leb (g .links) e) LinkMissing 0 ≡ Taken → e ≤ placeMost
 unfolding tableVerdict netVerdict
 there-placed g entries e t there =
-    omega (arith, few-links memoryLimits _ _ _ (head-taken _ _ (head-taken _ _ t)), leb-false (g .links) e (if-taken _ LinkMissing 0 there))
+    omega (arith, sized-links memoryLimits _ _ _ (head-taken _ _ (head-taken _ _ t)), leb-false (g .links) e (if-taken _ LinkMissing 0 there))
 
 pub change-placed : (g : Net) (entries : List ℕ) (c : Change) → Placed (changeVerdict g entries c)
 unfolding changeVerdict
@@ -171,11 +161,11 @@ module _ (file : List ℕ) (rows : Rows) where
   module _ (t : headVerdict file ≡ Taken) where
     nodes-few : nodesRead file ≤ editionLimits .nodes
     unfolding headVerdict
-    nodes-few = few-nodes editionLimits _ _ _ (head-taken _ _ (rest-taken _ _ (rest-taken _ _ t)))
+    nodes-few = sized-nodes editionLimits _ _ _ (head-taken _ _ (rest-taken _ _ (rest-taken _ _ t)))
 
     links-few : linksRead file ≤ editionLimits .links
     unfolding headVerdict
-    links-few = few-links editionLimits _ _ _ (head-taken _ _ (rest-taken _ _ (rest-taken _ _ t)))
+    links-few = sized-links editionLimits _ _ _ (head-taken _ _ (rest-taken _ _ (rest-taken _ _ t)))
 
     blocks-few : (i : ℕ) → i < blockCount (nodesRead file) (linksRead file) → i ≤ placeMost
     unfolding blockCount blocksFor

@@ -7,9 +7,10 @@ use lib.Dec.{eqb, leb, ltb}
 use borrow.Author.Tests.{eqb-false, leb-false, ltb-false, not-false}
 use Rattle.edition.specs.Limits.{nodeLimit, linkLimit, depthLimit, wholeSearch, memoryLimits}
 use Rattle.rows.specs.Lists.{differ}
-use Rattle.rows.proofs.Tests.{clash, or-false, or3-false}
+use Rattle.rows.proofs.Tests.{clash, or3-false}
 use Rattle.network.specs.Network.{Net, inService, touches, otherEnd}
-use Rattle.network.specs.Records.{badNodes, badLinks, badRoot, badDepth, badEnds, unfit, badParent}
+use Rattle.network.specs.Records.{badRoot, badDepth, badEnds, unfit, badParent}
+use Rattle.network.proofs.Sizes.{nodes-within, links-within}
 use Rattle.tree.specs.Tree.{treeOf, under, onPath}
 use Rattle.tree.proofs.Ways.{Way, Home}
 use Rattle.tree.proofs.Meeting.{on-path}
@@ -28,12 +29,10 @@ whole-or-few depth h b e f = ltb-false depthLimit depth (sized (ltb depthLimit d
 
 module _ (g : Net) (s : Sound g) where
   pub nodes-few : g .nodes ≤ nodeLimit
-  unfolding badNodes
-  nodes-few = ltb-false nodeLimit (g .nodes) (or-false (eqb (g .nodes) 0) (ltb nodeLimit (g .nodes)) (s .sized .nodes-ok) .1)
+  nodes-few = nodes-within memoryLimits (g .nodes) (s .sized .nodes-ok)
 
   pub links-few : g .links ≤ linkLimit
-  unfolding badLinks
-  links-few = ltb-false linkLimit (g .links) (s .sized .links-ok)
+  links-few = links-within memoryLimits (g .links) (s .sized .links-ok)
 
   pub root-in : g .search .root < g .nodes
   unfolding badRoot

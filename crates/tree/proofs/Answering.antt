@@ -5,7 +5,7 @@ use mathlib.Core.List.{List, [], _∷_, _++_}
 use Prim.Native.Nat.{ℕ, _+_, _*_, _-_, _<_, _≤_}
 use native.Mathlib.Nat.{le-trans, mul-le-mul-right}
 use native.Mathlib.Omega.{arith}
-use lib.Dec.{eqb, ltb}
+use lib.Dec.{ltb}
 use lib.ListN.{length, getD, take, drop}
 use lib.Seq.{sets, sets-eq, take-at}
 use borrow.Author.Tests.{eq-eqb, ltb-true, ltb-false, le-ltb, not-false}
@@ -18,7 +18,7 @@ use Rattle.edition.specs.Limits.{nodeLimit, longest, memoryLimits}
 use Rattle.rows.specs.Lists.{has, total}
 use Rattle.rows.specs.First.{refuseIf}
 use Rattle.rows.specs.Count.{rowWith}
-use Rattle.rows.proofs.Tests.{or-false, and-left, and-right}
+use Rattle.rows.proofs.Tests.{and-left, and-right}
 use Rattle.rows.proofs.Listed.{total-bound}
 use Rattle.rows.proofs.Refusing.{both-taken, none-left, if-passes, head-taken, rest-taken, head-refuses, head-passes, if-taken, only-one}
 use Rattle.network.specs.Network.{Net, netOf}
@@ -31,13 +31,13 @@ use Rattle.tree.specs.Answers.{roomVerdict, rowVerdict, distanceRow, hop
 use Rattle.tree.specs.Work.{Rooted, Routed, Onto}
 use Rattle.tree.proofs.Ways.{Way, top, hop, Home, way, home-up, route-root, route-length, hops-cut, dist-cut, under-root, way-root}
 use Rattle.tree.proofs.Climbing.{climb-root, climb-up}
+use Rattle.network.proofs.Sizes.{nodes-within}
 use Rattle.tree.proofs.InRows.{size-in, root-in, few}
 use Rattle.tree.proofs.Onto.{onto-meet, onto-apart}
 
 -- n is within the limit
 pub few-nodes : (n : ℕ) → badNodes memoryLimits n ≡ false → n ≤ nodeLimit
-unfolding badNodes
-few-nodes n h = ltb-false nodeLimit n (or-false (eqb n 0) (ltb nodeLimit n) h .1)
+few-nodes n h = nodes-within memoryLimits n h
 
 -- what a row that is taken has
 pub room-taken : (n room : ℕ) → roomVerdict n room ≡ Taken → (n ≤ nodeLimit) × (n ≤ room)
