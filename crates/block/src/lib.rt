@@ -25,9 +25,6 @@ const WORDS: usize = Edition::BLOCK_BYTES / 2;
 
 const CHECK_WORD: usize = 3;
 
-// The largest 16-bit number.
-const WORD_MOST: u16 = 65535;
-
 // Where the zeros inside a table's entry stand.
 const FIRST_ZERO: usize = 3;
 
@@ -38,7 +35,7 @@ fn ones_add(a: u16, b: u16) -> u16
     ensures { λ r. ⌜ r ≡ onesAdd a b ⌝ }
 {
     let sum = a as u32 + b as u32;
-    let most = WORD_MOST as u32;
+    let most = Edition::WORD_MOST as u32;
     if most < sum {
         return (sum - most) as u16;
     }
@@ -75,7 +72,7 @@ fn check_of(b: &[u8]) -> u16
         sum = ones_add(sum, word_at(b, k));
         k += 1;
     }
-    WORD_MOST - sum
+    Edition::WORD_MOST - sum
 }
 
 // How many records a block of a kind holds; 0 where the kind is none of the three.

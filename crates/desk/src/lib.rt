@@ -1,7 +1,7 @@
 // What the desk programs share: files by name, and what is said on standard error. A function that says why something went
 // wrong answers false, which its caller hands up.
 ghost use mathlib.Core.Path.{_≡_};
-ghost use mathlib.Core.Bool.{false};
+ghost use mathlib.Core.Bool.{true, false};
 ghost use Prim.Native.Nat.{_+_, _≤_};
 ghost use lib.ListN.{length};
 use edition::Refusal;
@@ -192,13 +192,8 @@ fn is_there(name: &[u8]) -> bool {
     true
 }
 
-// Makes a new file of the first bytes of a row, as many as `size`, and answers whether it did: first under its name with `.part`
-// behind it, then by a rename, so that no file of the name is ever half written. A file that is there and can be opened stays,
-// and it is said.
-pub fn write_new(name: &[u8], row: &[u8], size: usize) -> bool {
-    if row.len() < size {
-        return complain(name, b"there are fewer bytes than its length");
-    }
+// Makes a new file of these bytes and answers whether it did: first under its name with `.part` behind it, then by a rename.
+fn write_bytes(name: &[u8], bytes: &[u8]) -> bool {
     if Desk::NAME < name.len() {
         return complain(name, b"the name is too long");
     }
@@ -211,5 +206,16 @@ pub fn write_new(name: &[u8], row: &[u8], size: usize) -> bool {
     if room.len() < ended {
         return false;
     }
-    make(&room[0..ended], name, &row[0..size])
+    make(&room[0..ended], name, bytes)
+}
+
+// Makes a new file of the first bytes of a row, as many as `size`, and answers whether it did, which it does of no more bytes
+// than the row has. No file of the name is ever half written; one that is there and can be opened stays, and it is said.
+pub fn write_new(name: &[u8], row: &[u8], size: usize) -> bool
+    ensures { λ r. ⌜ (r ≡ true → size ≤ length (now (row .entry))) ⌝ }
+{
+    if row.len() < size {
+        return complain(name, b"there are fewer bytes than its length");
+    }
+    write_bytes(name, &row[0..size])
 }

@@ -126,6 +126,9 @@ impl Edition {
 
     pub const FRONT_BYTES: usize = 8;
 
+    // The largest word that a block's check adds up.
+    pub const WORD_MOST: u16 = 65535;
+
     pub const PAYLOAD_BYTES: usize = Edition::BLOCK_BYTES - Edition::FRONT_BYTES;
 
     pub const HEADER_KIND: u8 = 72;
