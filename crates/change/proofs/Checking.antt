@@ -1,19 +1,14 @@
--- The loop that looks whether a link is some node's parent link, and the test of shortness. Assumes nothing.
-use mathlib.Core.Path.{_≡_, sym, ap, _∙_}
-use mathlib.Core.Bool.{Bool, true, false, not}
+-- The test of shortness of a change. Assumes nothing.
+use mathlib.Core.Path.{_≡_, ap, _∙_}
+use mathlib.Core.Bool.{Bool, false, not}
 use mathlib.Core.List.{List}
-use Prim.Native.Nat.{ℕ, _+_, _<_, _≤_}
-use native.Mathlib.Numerals.{add-one}
-use native.Mathlib.Omega.{arith}
-use lib.Dec.{eqb}
-use lib.ListN.{length, getD}
+use Prim.Native.Nat.{ℕ, _<_}
+use lib.ListN.{getD}
 use borrow.Author.Tests.{eq-eqb, ne-eqb}
 use Rattle.edition.specs.declared.Change.{Change}
 use Rattle.edition.specs.declared.Search.{Search}
 use Rattle.edition.specs.declared.Verdict.the-variants.{Taken}
-use Rattle.edition.specs.Limits.{noLink, served}
-use Rattle.rows.proofs.Best.{none-some, one-some}
-use Rattle.rows.proofs.Tests.{lastly}
+use Rattle.edition.specs.Limits.{served}
 use Rattle.network.specs.declared.Link.{Link}
 use Rattle.network.specs.Network.{linksIn, linkIn, netOf}
 use Rattle.tree.specs.Tree.{treeOf, dist}
@@ -23,32 +18,6 @@ use Rattle.sound.proofs.Sounds.{sound}
 use Rattle.sound.proofs.Holding.{first-in, second-in}
 use Rattle.table.proofs.Preparing.{zeroRow, nears}
 use Rattle.change.specs.Change.{breaks}
-use Rattle.change.specs.Work.{names}
-
--- none of the nodes below u names e
-pub record Unnamed (parents : List ℕ) (e u : ℕ) : Type 0 where
-  pub low : u ≤ length parents
-  pub none : (j : ℕ) → j < u → eqb (getD parents j noLink) e ≡ false
-
-module _ (parents : List ℕ) (e : ℕ) where
-  pub unnamed-start : Unnamed parents e 0
-  unnamed-start = record { low = omega arith; none = λ j l. absurd (omega arith) }
-
-  module _ (u : ℕ) (s : Unnamed parents e u) where
-    pub unnamed-more : u < length parents → (v : ℕ) → v ≡ getD parents u noLink → (v ≡ e → ⊥) → Unnamed parents e (u + 1)
-    unnamed-more l v q n =
-        record {
-          low = omega arith;
-          none = rw add-one (lastly (λ j. eqb (getD parents j noLink) e ≡ false) u (s .none) (ne-eqb (getD parents u noLink) e (λ z. n (q ∙ z))));
-        }
-
-    pub named : u < length parents → (v : ℕ) → v ≡ getD parents u noLink → v ≡ e → true ≡ names parents e
-    unfolding names
-    named l v q z = sym (one-some (λ u. eqb (getD parents u noLink) e) (length parents) u l (eq-eqb (getD parents u noLink) e (sym q ∙ z)))
-
-    pub unnamed-end : length parents ≤ u → false ≡ names parents e
-    unfolding names
-    unnamed-end l = sym (none-some (λ u. eqb (getD parents u noLink) e) (length parents) (λ j m. s .none j (omega arith)))
 
 module _ (links parents : List ℕ) (search : Search) (c : Change) where
   pub withdrawn-fits : (c .mark ≡ served → ⊥) → false ≡ breaks (netOf links parents search) c

@@ -57,6 +57,13 @@ linkWidth = 4
 abbrev pub entryWidth : ℕ
 entryWidth = 7
 
+-- Numbers in the longest rows: of links, of entries.
+abbrev pub linkRoom : ℕ
+linkRoom = linkLimit * linkWidth
+
+abbrev pub entryRoom : ℕ
+entryRoom = nodeLimit * entryWidth
+
 -- The map has eight words of 64 bits.
 abbrev pub mapWords : ℕ
 mapWords = 8

@@ -150,7 +150,7 @@ impl Edition {
 
     pub const ENTRIES_A_BLOCK: usize = 18;
 
-    // The longest file.
+    // The longest file: no network within the limits has more blocks.
     pub const BLOCKS: usize = 63;
 
     pub const FILE_BYTES: usize = Edition::BLOCKS * Edition::BLOCK_BYTES;
@@ -185,7 +185,7 @@ impl Edition {
         ensures { λ r. ⌜ r ≡ noSwap ⌝ }
     {
         Swap {
-            link: Edition::NO_LINK as u64,
+            link: Edition::no_link() as u64,
             cost: 0,
         }
     }
@@ -194,10 +194,7 @@ impl Edition {
     pub fn blank_entry(state: u64) -> Entry
         ensures { λ r. ⌜ r ≡ blank state ⌝ }
     {
-        let none = Swap {
-            link: Edition::NO_LINK as u64,
-            cost: 0,
-        };
+        let none = Edition::no_swap();
         Entry {
             state,
             sum: none,
@@ -230,6 +227,11 @@ impl Memory {
     pub const LINK: usize = 4;
 
     pub const ENTRY: usize = 7;
+
+    // Numbers of the longest rows: of links, of entries.
+    pub const LINK_ROW: usize = Memory::LINKS * Memory::LINK;
+
+    pub const ENTRY_ROW: usize = Memory::NODES * Memory::ENTRY;
 
     // The unprotected map: words, and bits a word.
     pub const WORDS: usize = 8;

@@ -1,2 +1,4 @@
-pub mod Whole
+pub mod Keeping
+pub mod Naming
 pub mod Sizes
+pub mod Whole

@@ -1,43 +1,34 @@
 -- Only whole records count: rows that agree on those make one network, so everything said of a network is the same for both.
 -- A row of 16-bit numbers has no length over 65,535. Assumes nothing.
-use mathlib.Core.Path.{_≡_, refl, ap}
+use mathlib.Core.Path.{_≡_, refl, sym, subst, ap, _∙_}
 use mathlib.Core.Bool.{Bool, true, false}
 use mathlib.Core.List.{List}
 use Prim.Native.Nat.{ℕ, _+_, _*_, _<_, _≤_}
 use native.Mathlib.Omega.{arith}
 use lib.Dec.{ltb}
 use lib.ListN.{length, getD}
-use borrow.Author.Tests.{ltb-true}
+use borrow.Author.Tests.{ltb-true, ltb-false}
 use Rattle.edition.specs.declared.Search.{Search}
 use Rattle.edition.specs.Limits.{noLink, linkWidth, longest}
-use Rattle.rows.specs.Count.{onlyIf}
-use Rattle.rows.proofs.Counting.{only-small}
-use Rattle.network.specs.Network.{Net, linksIn, fieldIn, linkIn, netOf}
+use Rattle.rows.specs.Records.{recordIn}
+use Rattle.rows.proofs.Put as put
+use Rattle.network.specs.Network.{Net, linksIn, linkFrom, linkIn, netOf}
+use Rattle.network.proofs.Keeping.{link-none}
 
--- two rows of links with as many whole records, and the same numbers in them
+-- two rows of links with as many whole records, and the same links in them
 pub record Agree (a b : List ℕ) : Type 0 where
   pub count : linksIn a ≡ linksIn b
-  pub numbers : (e i : ℕ) → e < linksIn a → i < linkWidth → getD a (e * linkWidth + i) 0 ≡ getD b (e * linkWidth + i) 0
+  pub records : (e : ℕ) → e < linksIn a → linkIn a e ≡ linkIn b e
 
 module _ (a b : List ℕ) (h : Agree a b) where
-  field-agrees : (e i : ℕ) → i < linkWidth → fieldIn a e i ≡ fieldIn b e i
-  unfolding fieldIn onlyIf
-  field-agrees e i l = rw (← h .count) (go (ltb e (linksIn a)) refl)
-    where
-      go : (t : Bool) → ltb e (linksIn a) ≡ t → onlyIf t (getD a (e * linkWidth + i) 0) ≡ onlyIf t (getD b (e * linkWidth + i) 0)
-      go true q = h .numbers e i (ltb-true e (linksIn a) q) l
-      go false q = refl
-
   link-agrees : (e : ℕ) → linkIn a e ≡ linkIn b e
-  unfolding linkIn
-  link-agrees e =
-      λ i.
-      record {
-        first = field-agrees e 0 (omega arith) i;
-        second = field-agrees e 1 (omega arith) i;
-        length = field-agrees e 2 (omega arith) i;
-        mark = field-agrees e 3 (omega arith) i;
-      }
+  link-agrees e = go (ltb e (linksIn a)) refl
+    where
+      go : (t : Bool) → ltb e (linksIn a) ≡ t → linkIn a e ≡ linkIn b e
+      go true q = h .records e (ltb-true e (linksIn a) q)
+      go false q =
+          let out = ltb-false e (linksIn a) q in
+          sym (link-none a e out) ∙ link-none b e (omega (arith, out, h .count))
 
   -- the same network
   pub same-network : (parents : List ℕ) (search : Search) → netOf a parents search ≡ netOf b parents search
@@ -56,7 +47,27 @@ module _ (a b : List ℕ) (h : Agree a b) where
 pub same-answer : {A : Type 0} (a b : List ℕ) → Agree a b → (f : Net → A) (parents : List ℕ) (search : Search) → f (netOf a parents search) ≡ f (netOf b parents search)
 same-answer a b h f parents search = ap f (same-network a b h parents search)
 
--- no length passes the largest 16-bit number
-pub length-held : (row : List ℕ) → ((i : ℕ) → getD row i 0 ≤ longest) → (e : ℕ) → linkIn row e .length ≤ longest
-unfolding linkIn fieldIn
-length-held row h e = only-small (ltb e (linksIn row)) (getD row (e * linkWidth + 2) 0) longest (λ q. h (e * linkWidth + 2))
+-- no number of a link passes the largest 16-bit number
+module _ (row : List ℕ) (held : (i : ℕ) → getD row i 0 ≤ longest) (e : ℕ) where
+  number-held : (i : ℕ) → i < linkWidth → getD (recordIn linkWidth row e) i 0 ≤ longest
+  number-held i l = go (ltb e (linksIn row)) refl
+    where
+      go : (t : Bool) → ltb e (linksIn row) ≡ t → getD (recordIn linkWidth row e) i 0 ≤ longest
+      go true q = subst (λ (v : ℕ). v ≤ longest) (sym (put.record-number linkWidth row e i (ltb-true e (linksIn row) q) l)) (held (e * linkWidth + i))
+      go false q = rw (put.record-none linkWidth row e (ltb-false e (linksIn row) q)) (omega arith)
+
+  pub first-held : linkIn row e .first ≤ longest
+  unfolding linkIn linkFrom
+  first-held = number-held 0 (omega arith)
+
+  pub second-held : linkIn row e .second ≤ longest
+  unfolding linkIn linkFrom
+  second-held = number-held 1 (omega arith)
+
+  pub length-held : linkIn row e .length ≤ longest
+  unfolding linkIn linkFrom
+  length-held = number-held 2 (omega arith)
+
+  pub mark-held : linkIn row e .mark ≤ longest
+  unfolding linkIn linkFrom
+  mark-held = number-held 3 (omega arith)

@@ -1,3 +1,2 @@
 pub mod Network
-pub mod Part
 pub mod Records

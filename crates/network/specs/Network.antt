@@ -1,13 +1,14 @@
 -- A network: what the lent rows of links and parents say, with the numbers that the caller names. Only whole records count;
 -- everything below this page speaks of a network and never of its rows. Assumes nothing.
 use mathlib.Core.Bool.{Bool, cond, _||_}
-use mathlib.Core.List.{List}
-use Prim.Native.Nat.{ℕ, _+_, _*_, _/_}
-use lib.Dec.{eqb, ltb}
+use mathlib.Core.List.{List, [], _∷_}
+use Prim.Native.Nat.{ℕ}
+use lib.Dec.{eqb}
 use lib.ListN.{length, getD}
 use Rattle.edition.specs.declared.Search.{Search}
 use Rattle.edition.specs.Limits.{noLink, linkWidth, served}
-use Rattle.rows.specs.Count.{onlyIf}
+use Rattle.rows.specs.Count.{someTo}
+use Rattle.rows.specs.Records.{recordsIn, recordIn, withRecord, pastRecords}
 use Rattle.network.specs.declared.Link.{Link}
 
 -- n nodes and m links; the record of each link, the parent link of each node; root and depth.
@@ -20,16 +21,31 @@ pub record Net : Type 0 where
 
 -- How many whole records a row of links holds.
 abbrev pub linksIn : List ℕ → ℕ
-linksIn row = length row / linkWidth
+linksIn row = recordsIn linkWidth row
 
--- Number i of the record of link e in a row; 0 where there is no such link.
-unfoldable pub fieldIn : List ℕ → ℕ → ℕ → ℕ
-fieldIn row e i = onlyIf (ltb e (linksIn row)) (getD row (e * linkWidth + i) 0)
+-- The numbers of a link's record: two ends, length, service mark.
+unfoldable pub linkRow : Link → List ℕ
+linkRow l = l .first ∷ l .second ∷ l .length ∷ l .mark ∷ []
 
--- The record of link e: two ends, length and service mark.
+-- The link that the numbers of a record are.
+unfoldable pub linkFrom : List ℕ → Link
+linkFrom r = record { first = getD r 0 0; second = getD r 1 0; length = getD r 2 0; mark = getD r 3 0 }
+
+-- The record of link e in a row; all 0 where there is no such link.
 unfoldable pub linkIn : List ℕ → ℕ → Link
-linkIn row e =
-    record { first = fieldIn row e 0; second = fieldIn row e 1; length = fieldIn row e 2; mark = fieldIn row e 3 }
+linkIn row e = linkFrom (recordIn linkWidth row e)
+
+-- The row with this link in the record of link e; as it was where there is no such link.
+unfoldable pub putLink : List ℕ → ℕ → Link → List ℕ
+putLink row e l = withRecord linkWidth row e (linkRow l)
+
+-- What lies past the records of the first m links.
+unfoldable pub pastLinks : ℕ → List ℕ → List ℕ
+pastLinks m row = pastRecords linkWidth m row
+
+-- Does a row of parents name link e?
+unfoldable pub names : List ℕ → ℕ → Bool
+names parents e = someTo (λ u. eqb (getD parents u noLink) e) (length parents)
 
 -- The network of lent rows: n is the length of the row of parents, m that of the row of links.
 unfoldable pub netOf : List ℕ → List ℕ → Search → Net

@@ -1,12 +1,12 @@
 // A network in lent rows: its links and its nodes' parent links, read totally; refusals 1 to 7.
 ghost use mathlib.Core.Path.{_≡_};
-ghost use Prim.Native.Nat.{_<_};
+ghost use Prim.Native.Nat.{_*_, min};
 ghost use lib.ListN.{length, getD};
-ghost use Rattle.edition.specs.Limits.{noLink, linkWidth};
+ghost use Rattle.edition.specs.Limits.{noLink, linkLimit, linkWidth};
 ghost use Rattle.edition.specs.declared.Why.the-variants.{NodeCount, LinkCount, BadRoot, BadDepth, BadEnds, BadMark, BadParent};
 ghost use Rattle.rows.specs.First.{firstTo, refuseIf, refuseAt};
-ghost use Rattle.network.specs.Network.{linksIn, fieldIn, linkIn, netOf, inService, touches as touchesIt, otherEnd};
-ghost use Rattle.network.specs.Part.{firstRecords};
+ghost use Rattle.rows.specs.Records.{firstRecords};
+ghost use Rattle.network.specs.Network.{linksIn, linkIn, putLink, pastLinks, netOf, names, inService, touches as touchesIt, otherEnd};
 ghost use Rattle.network.specs.Records.{badNodes, badLinks, badRoot, badDepth, sizeVerdict, badEnds, badMark, unfit, badParent};
 use edition::Edition;
 use edition::Found;
@@ -31,44 +31,91 @@ pub fn links_in(links: &[u16]) -> usize
     links.len() / Memory::LINK
 }
 
-// The records of the first m links: that part of the lent row, no copy; all of it where m is over the limit on links.
+// The records of the first m links: that part of the lent row, no copy; all of it where it holds fewer.
 pub fn first_links(links: &[u16], m: usize) -> &[u16]
-    ensures { λ r. ⌜ now r ≡ firstRecords (now (links .entry)) m ⌝ }
+    ensures { λ r. ⌜ now r ≡ firstRecords linkWidth m (now (links .entry)) ⌝ }
 {
-    if Memory::LINKS < m {
+    if links.len() / Memory::LINK < m {
         return links;
     }
     rows::first(links, m * Memory::LINK)
 }
 
-// Number i of the record of link e; 0 where there is no such link.
-fn field(links: &[u16], e: usize, i: usize) -> u16
-    requires { ⌜ i < linkWidth ⌝ }
-    ensures { λ r. ⌜ r ≡ fieldIn (now (links .entry)) e i ⌝ }
+// What lies past the records of the first m links: that part of the lent row, no copy.
+pub fn past_links(links: &[u16], m: usize) -> &[u16]
+    ensures { λ r. ⌜ now r ≡ pastLinks m (now (links .entry)) ⌝ }
 {
-    if e < links.len() / Memory::LINK {
-        return links[e * Memory::LINK + i];
+    let end = links.len();
+    if end / Memory::LINK < m {
+        return &links[end..];
     }
-    0
+    &links[m * Memory::LINK..]
+}
+
+// How many numbers m links take; no more than those of as many links as there can be.
+pub fn numbers_of(m: usize) -> usize
+    ensures { λ r. ⌜ r ≡ min m linkLimit * linkWidth ⌝ }
+{
+    if Memory::LINKS < m {
+        return Memory::LINK_ROW;
+    }
+    m * Memory::LINK
 }
 
 // The record of link e; all 0 where there is no such link.
 pub fn link_at(links: &[u16], e: usize) -> Link
     ensures { λ r. ⌜ r ≡ linkIn (now (links .entry)) e ⌝ }
 {
-    Link {
-        first: field(links, e, 0),
-        second: field(links, e, 1),
-        length: field(links, e, 2),
-        mark: field(links, e, 3),
+    if links.len() / Memory::LINK <= e {
+        return Link {
+            first: 0,
+            second: 0,
+            length: 0,
+            mark: 0,
+        };
     }
+    let at = e * Memory::LINK;
+    Link {
+        first: links[at],
+        second: links[at + 1],
+        length: links[at + 2],
+        mark: links[at + 3],
+    }
+}
+
+// Writes the record of link e; nothing where there is no such link.
+pub fn put_link(links: &mut [u16], e: usize, l: Link)
+    ensures { λ _. ⌜ now (links .exit) ≡ putLink (now (links .entry)) e l ⌝ }
+{
+    if links.len() / Memory::LINK <= e {
+        return;
+    }
+    let at = e * Memory::LINK;
+    links[at] = l.first;
+    links[at + 1] = l.second;
+    links[at + 2] = l.length;
+    links[at + 3] = l.mark;
 }
 
 // The parent link that node u names; 65,535 where u is no node.
 pub fn parent_of(parents: &[u16], u: usize) -> u16
     ensures { λ r. ⌜ r ≡ getD (now (parents .entry)) u noLink ⌝ }
 {
-    rows::at(parents, u, Edition::NO_LINK)
+    rows::at(parents, u, Edition::no_link())
+}
+
+// Whether link e is some node's parent link.
+pub fn is_parent(parents: &[u16], e: usize) -> bool
+    ensures { λ r. ⌜ r ≡ names (now (parents .entry)) e ⌝ }
+{
+    let mut u = 0;
+    while u < parents.len() {
+        if parent_of(parents, u) as usize == e {
+            return true;
+        }
+        u += 1;
+    }
+    false
 }
 
 // Whether the link is in service.
@@ -247,7 +294,7 @@ fn bad_parent(links: &[u16], parents: &[u16], search: Search, u: usize) -> bool
     ensures { λ r. ⌜ r ≡ badParent (netOf (now (links .entry)) (now (parents .entry)) search) u ⌝ }
 {
     let root = search.root as usize;
-    let none = Edition::NO_LINK as usize;
+    let none = Edition::no_link() as usize;
     let e = parent_of(parents, u) as usize;
     if u == root {
         return e != none;

@@ -5,6 +5,7 @@ pub mod Refusing
 pub mod Counting
 pub mod Places
 pub mod Records
+pub mod Put
 pub mod Filling
 pub mod Holding
 pub mod Listed

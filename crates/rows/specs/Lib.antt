@@ -1,3 +1,4 @@
 pub mod Count
 pub mod First
 pub mod Lists
+pub mod Records

@@ -1,3 +1,4 @@
 pub mod Sounds
 pub mod Holding
 pub mod Shortness
+pub mod Handing

@@ -54,3 +54,8 @@ answerOf (Refused r) g = Unsound r
 -- The check of a network.
 unfoldable pub checked : Net → Checked
 checked g = answerOf (netVerdict g) g
+
+-- What is handed up of a check: its refusal unchanged, or that nothing is refused.
+abbrev pub handedUp : Checked → Verdict
+handedUp (Sound sizes) = Taken
+handedUp (Unsound r) = Refused r

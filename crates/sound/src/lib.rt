@@ -7,7 +7,7 @@ ghost use Rattle.edition.specs.declared.Why.the-variants.{NoRoute, NotShort};
 ghost use Rattle.rows.specs.First.{firstTo, refuseAt};
 ghost use Rattle.network.specs.Network.{linksIn, linkIn, netOf};
 ghost use Rattle.network.specs.Records.{badNodes};
-ghost use Rattle.sound.specs.Sound.{noRoute, keepsShort, notShort, recordVerdict, netVerdict, checked};
+ghost use Rattle.sound.specs.Sound.{noRoute, keepsShort, notShort, recordVerdict, netVerdict, checked, handedUp};
 ghost use Rattle.sound.specs.Work.{breaksBy, EndsIn};
 use edition::Found;
 use edition::Memory;
@@ -75,9 +75,10 @@ fn breaks_by(row: &[u64], l: Link) -> bool
 fn first_breaking(links: &[u16], row: &[u64]) -> Found
     ensures { λ r. ⌜ r ≡ firstTo (λ e. breaksBy (now (row .entry)) (linkIn (now (links .entry)) e)) (linksIn (now (links .entry))) ⌝ }
 {
+    let m = network::links_in(links);
     let mut found = Found::Nothing;
     let mut e = 0;
-    while e < links.len() / Memory::LINK {
+    while e < m {
         found = rows::or_here(found, breaks_by(row, network::link_at(links, e)), e);
         e += 1;
     }
@@ -119,7 +120,7 @@ fn check_records(links: &[u16], parents: &[u16], search: Search) -> Verdict
 }
 
 // Refusals 1 to 9, in their order.
-pub fn verdict(links: &[u16], parents: &[u16], search: Search) -> Verdict
+fn verdict(links: &[u16], parents: &[u16], search: Search) -> Verdict
     ensures { λ r. ⌜ r ≡ netVerdict (netOf (now (links .entry)) (now (parents .entry)) search) ⌝ }
 {
     let sizes = network::check_sizes(
@@ -142,8 +143,18 @@ pub fn check_network(links: &[u16], parents: &[u16], search: Search) -> Checked
     match said {
         Verdict::Taken => Checked::Sound(Sizes {
             nodes: parents.len(),
-            links: links.len() / Memory::LINK,
+            links: network::links_in(links),
         }),
         Verdict::Refused(why) => Checked::Unsound(why),
+    }
+}
+
+// What is handed up of a check: its refusal unchanged, or that nothing is refused.
+pub fn handed_up(said: Checked) -> Verdict
+    ensures { λ r. ⌜ r ≡ handedUp said ⌝ }
+{
+    match said {
+        Checked::Sound(_) => Verdict::Taken,
+        Checked::Unsound(why) => Verdict::Refused(why),
     }
 }

@@ -27,7 +27,7 @@ use Rattle.tree.specs.declared.Climb.{Climb}
 use Rattle.tree.specs.declared.Answer.{Answer}
 use Rattle.tree.specs.declared.Answer.the-variants.{Is}
 use Rattle.tree.specs.Tree.{Tree, treeOf, climb, route, hasRoute, dist, hops}
-use Rattle.tree.specs.Answers.{roomVerdict, rowVerdict, distanceRow, hopRow, lost, wayVerdict, answerIf, routeVerdict, routeRow, routeAnswer, waysVerdict, meetAnswer, apartAnswer}
+use Rattle.tree.specs.Answers.{roomVerdict, rowVerdict, distanceRow, lost, wayVerdict, answerIf, routeVerdict, routeRow, routeAnswer, waysVerdict, meetAnswer, apartAnswer}
 use Rattle.tree.specs.Work.{Rooted, Routed, Onto}
 use Rattle.tree.proofs.Ways.{Way, top, hop, Home, way, home-up, route-root, route-length, hops-cut, dist-cut, under-root, way-root}
 use Rattle.tree.proofs.Climbing.{climb-root, climb-up}
@@ -151,17 +151,13 @@ module _ (g : Net) (u z : ℕ) where
     parted e f p q = rw t (ap Is (onto-apart (treeOf g) u z hu hz c o e f p q))
 
 module _ (g : Net) (row : List ℕ) where
-  pub rows-refused : (v : Verdict) (r : Refusal) → v ≡ roomVerdict (g .nodes) (length row) → v ≡ Refused r → ((v ≡ rowVerdict g row) × (row ≡ distanceRow g row)) × ((v ≡ rowVerdict g row) × (row ≡ hopRow g row))
-  unfolding distanceRow hopRow
-  rows-refused v r q p = ((q, rw (sym q ∙ p)), (q, rw (sym q ∙ p)))
+  pub rows-refused : (v : Verdict) (r : Refusal) → v ≡ roomVerdict (g .nodes) (length row) → v ≡ Refused r → (v ≡ rowVerdict g row) × (row ≡ distanceRow g row)
+  unfolding distanceRow
+  rows-refused v r q p = (q, rw (sym q ∙ p))
 
   pub distances-filled : (v : Verdict) → v ≡ roomVerdict (g .nodes) (length row) → v ≡ Taken → (after : List ℕ) → after ≡ rowWith (dist (treeOf g)) (g .nodes) row → (Taken ≡ rowVerdict g row) × (after ≡ distanceRow g row)
   unfolding distanceRow
   distances-filled v q p after e = (sym p ∙ q, rw (sym q ∙ p) e)
-
-  pub hops-filled : (v : Verdict) → v ≡ roomVerdict (g .nodes) (length row) → v ≡ Taken → (after : List ℕ) → after ≡ rowWith (hops (treeOf g) (treeOf g .root)) (g .nodes) row → (Taken ≡ rowVerdict g row) × (after ≡ hopRow g row)
-  unfolding hopRow
-  hops-filled v q p after e = (sym p ∙ q, rw (sym q ∙ p) e)
 
 -- in rows: what a verdict that is taken gives the calls after it
 module _ (links parents : List ℕ) (search : Search) where

@@ -1,4 +1,4 @@
--- What is asked of the tree alone: a climbing cursor, the distances and hops of all nodes, the route of one, the tree distance of
+-- What is asked of the tree alone: a climbing cursor, the distances of all nodes, the route of one, the tree distance of
 -- two. None of these checks the network beyond what it needs: n within the limit, a node that has a route, room. Assumes nothing.
 use mathlib.Core.Bool.{Bool, not, _&&_}
 use mathlib.Core.List.{List, [], _∷_, _++_}
@@ -17,7 +17,7 @@ use Rattle.network.specs.Records.{badNodes}
 use Rattle.tree.specs.declared.Climb.{Climb}
 use Rattle.tree.specs.declared.Answer.{Answer}
 use Rattle.tree.specs.declared.Answer.the-variants.{Is, Not}
-use Rattle.tree.specs.Tree.{Tree, treeOf, route, hasRoute, dist, hops, meet, apart}
+use Rattle.tree.specs.Tree.{Tree, treeOf, route, hasRoute, dist, meet, apart}
 
 -- A climb that begins at u.
 unfoldable pub begun : ℕ → Climb
@@ -40,14 +40,9 @@ roomVerdict n room =
 abbrev pub rowVerdict : Net → List ℕ → Verdict
 rowVerdict g row = roomVerdict (g .nodes) (length row)
 
--- The row with d(u) of every node, and with the hops of every node below the root.
+-- The row with d(u) of every node.
 unfoldable pub distanceRow : Net → List ℕ → List ℕ
 distanceRow g row = let new = rowWith (dist (treeOf g)) (g .nodes) row in made (rowVerdict g row) new row
-
-unfoldable pub hopRow : Net → List ℕ → List ℕ
-hopRow g row =
-    let new = rowWith (hops (treeOf g) (treeOf g .root)) (g .nodes) row in
-    made (rowVerdict g row) new row
 
 -- Is u no node, or without a route?
 unfoldable pub lost : Net → ℕ → Bool

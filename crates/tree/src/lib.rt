@@ -7,8 +7,8 @@ ghost use Rattle.edition.specs.Limits.{nodeLimit};
 ghost use Rattle.rows.specs.Count.{rowWith};
 ghost use Rattle.rows.specs.Lists.{has};
 ghost use Rattle.network.specs.Network.{netOf};
-ghost use Rattle.tree.specs.Tree.{treeOf, route as routeTo, hasRoute, dist, hops};
-ghost use Rattle.tree.specs.Answers.{begun, stepped, roomVerdict, rowVerdict, distanceRow, hopRow, lost, wayVerdict, answerIf, routeAnswer, routeRow, waysVerdict, meetAnswer, apartAnswer};
+ghost use Rattle.tree.specs.Tree.{treeOf, route as routeTo, hasRoute, dist};
+ghost use Rattle.tree.specs.Answers.{begun, stepped, roomVerdict, rowVerdict, distanceRow, lost, wayVerdict, answerIf, routeAnswer, routeRow, waysVerdict, meetAnswer, apartAnswer};
 ghost use Rattle.tree.specs.Work.{Rooted, Routed, Onto};
 use edition::Edition;
 use edition::Memory;
@@ -134,19 +134,6 @@ fn fill_distances(links: &[u16], parents: &[u16], search: Search, row: &mut [u64
     }
 }
 
-// Writes the hops of every node below the root.
-fn fill_hops(links: &[u16], parents: &[u16], search: Search, row: &mut [usize])
-    requires { ⌜ (length (now parents) ≤ nodeLimit) × (length (now parents) ≤ length (now row)) ⌝ }
-    ensures { λ _. ⌜ now (row .exit) ≡ rowWith (hops (treeOf (netOf (now (links .entry)) (now (parents .entry)) search)) (treeOf (netOf (now (links .entry)) (now (parents .entry)) search) .root)) (length (now (parents .entry))) (now (row .entry)) ⌝ }
-{
-    let mut u = 0;
-    while u < parents.len() {
-        let c = to_root(links, parents, search, u);
-        row[u] = c.hops;
-        u += 1;
-    }
-}
-
 // d(u) of every node, into a lent row of at least n numbers. Refusals 1 and 10.
 pub fn distances(links: &[u16], parents: &[u16], search: Search, row: &mut [u64]) -> Verdict
     ensures { λ r. ⌜ (r ≡ rowVerdict (netOf (now (links .entry)) (now (parents .entry)) search) (now (row .entry))) × (now (row .exit) ≡ distanceRow (netOf (now (links .entry)) (now (parents .entry)) search) (now (row .entry))) ⌝ }
@@ -156,18 +143,6 @@ pub fn distances(links: &[u16], parents: &[u16], search: Search, row: &mut [u64]
         return room;
     };
     fill_distances(links, parents, search, row);
-    Verdict::Taken
-}
-
-// The hops of every node below the root, into a lent row of at least n numbers. Refusals 1 and 10.
-pub fn all_hops(links: &[u16], parents: &[u16], search: Search, row: &mut [usize]) -> Verdict
-    ensures { λ r. ⌜ (r ≡ rowVerdict (netOf (now (links .entry)) (now (parents .entry)) search) (now (row .entry))) × (now (row .exit) ≡ hopRow (netOf (now (links .entry)) (now (parents .entry)) search) (now (row .entry))) ⌝ }
-{
-    let room = check_row(parents.len(), row.len());
-    let Verdict::Taken = room else {
-        return room;
-    };
-    fill_hops(links, parents, search, row);
     Verdict::Taken
 }
 

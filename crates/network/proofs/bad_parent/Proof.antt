@@ -9,6 +9,9 @@ use Rattle.network.proofs.bad_parent.Tie as tie
 cast-root : tie.Need-cast-root
 cast-root c = search needs
 
+no-link-requires : tie.Need-no-link-requires
+no-link-requires c κs = search needs
+
 cast-none : tie.Need-cast-none
 cast-none c = search needs
 
@@ -20,7 +23,7 @@ cast-e c = search needs
 
 returns : tie.Need-returns
 unfolding badParent netOf
-returns c = rw (← c .before .parent-of .ensures, eq-eqb _ _ (c .if1 .taken))
+returns c = rw (← c .before .parent-of .ensures, eq-eqb _ _ (c .if1 .taken), c .before .before .no-link .ensures)
 
 links-in-requires : tie.Need-links-in-requires
 links-in-requires c κs = search needs
@@ -40,6 +43,7 @@ bad-parent-spec =
     tie.close
     (tie.spec
     cast-root
+    no-link-requires
     cast-none
     parent-of-requires
     cast-e

@@ -8,6 +8,9 @@ use Rattle.sound.proofs.check_network.Tie as tie
 verdict-requires : tie.Need-verdict-requires
 verdict-requires c κs = search needs
 
+links-in-requires : tie.Need-links-in-requires
+links-in-requires c κs = search needs
+
 enum-told : tie.Need-enum-told
 enum-told c = search needs
 
@@ -16,7 +19,7 @@ enum-known-said c = search needs
 
 returns : tie.Need-returns
 unfolding checked netOf
-returns c = rw (← c .before .before .verdict .ensures, c .enum-told .given .1)
+returns c = rw (← c .before .before .before .verdict .ensures, c .before .enum-told .given .1, c .links-in .ensures)
 
 returns-2 : tie.Need-returns-2
 unfolding checked netOf
@@ -24,4 +27,4 @@ returns-2 c = rw (← c .before .before .before .verdict .ensures, c .before .sa
 
 pub check-network-spec : {M : Type 1} → statement M
 check-network-spec =
-    tie.close (tie.spec verdict-requires enum-told enum-known-said returns returns-2)
+    tie.close (tie.spec verdict-requires enum-told links-in-requires enum-known-said returns returns-2)

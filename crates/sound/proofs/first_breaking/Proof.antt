@@ -2,6 +2,7 @@
 use Rattle.rows.proofs.Seeking.{Seeking, seek-start, seek-more, seek-done}
 use mathlib.Core.Path.{_∙_, ap}
 use Prim.Native.Nat.{_-_}
+use native.Mathlib.Omega.{arith}
 use Rattle.sound.specs.Work.{breaksBy}
 use Rattle.network.specs.Network.{linkIn, linksIn}
 use borrow.Author.Needs.{needs}
@@ -9,10 +10,13 @@ use Rattle.sound.proofs.first_breaking.Statement.{statement}
 use Rattle.sound.proofs.first_breaking.Tie as tie
 
 abbrev Inv-loop : tie.InvT-loop
-Inv-loop links row found₀ e₀ found e = Seeking (λ e. breaksBy row (linkIn links e)) (linksIn links) e found
+Inv-loop links row m found₀ e₀ found e = Seeking (λ e. breaksBy row (linkIn links e)) (linksIn links) e found
 
 abbrev μ-loop : tie.MeasureT-loop
-μ-loop links row found₀ e₀ found e = (linksIn links) - e
+μ-loop links row m found₀ e₀ found e = (linksIn links) - e
+
+links-in-requires : tie.Need-links-in-requires Inv-loop μ-loop
+links-in-requires c κs = search needs
 
 loop-holds : tie.Need-loop-holds Inv-loop μ-loop
 loop-holds c = seek-start _ _
@@ -33,10 +37,10 @@ loop-less : tie.Need-loop-less Inv-loop μ-loop
 loop-less c = search needs
 
 loop-again : tie.Need-loop-again Inv-loop μ-loop
-loop-again c = seek-more _ _ _ _ (c .before .before .before .before .loop .inv) (c .before .before .before .loop-test .taken) _ (c .before .breaks-by .ensures ∙ ap (breaksBy _) (c .before .before .link-at .ensures)) _ (c .or-here .ensures)
+loop-again c = seek-more _ _ _ _ (c .before .before .before .before .loop .inv) (omega (arith, c .before .before .before .loop-test .taken, c .before .before .before .before .before .links-in .ensures)) _ (c .before .breaks-by .ensures ∙ ap (breaksBy _) (c .before .before .link-at .ensures)) _ (c .or-here .ensures)
 
 returns : tie.Need-returns Inv-loop μ-loop
-returns c = seek-done _ _ _ _ (c .before .loop .inv) (c .loop-test .left)
+returns c = seek-done _ _ _ _ (c .before .loop .inv) (omega (arith, c .loop-test .left, c .before .before .links-in .ensures))
 
 pub first-breaking-spec : {M : Type 1} → statement M
 first-breaking-spec =
@@ -44,6 +48,7 @@ first-breaking-spec =
     (tie.spec
     Inv-loop
     μ-loop
+    links-in-requires
     loop-holds
     link-at-requires
     breaks-by-requires

@@ -17,7 +17,7 @@ enum-told-2 c = search needs
 
 returns : tie.Need-returns
 unfolding netOf
-returns c = rows-refused _ _ _ _ (c .before .before .check-row .ensures) (c .enum-told2 .given .1) .0
+returns c = rows-refused _ _ _ _ (c .before .before .check-row .ensures) (c .enum-told2 .given .1)
 
 fill-distances-requires : tie.Need-fill-distances-requires
 fill-distances-requires c κs = let z = room-taken _ _ (sym (c .before .before .before .check-row .ensures) ∙ c .before .enum-told .given .1) in z

@@ -1,10 +1,10 @@
--- `change::is_parent` meets its contract. Assumes nothing.
+-- `network::is_parent` meets its contract. Assumes nothing.
 use Prim.Native.Nat.{_-_}
 use lib.ListN.{length}
-use Rattle.change.proofs.Checking.{Unnamed, unnamed-start, unnamed-more, named, unnamed-end}
+use Rattle.network.proofs.Naming.{Unnamed, unnamed-start, unnamed-more, named, unnamed-end}
 use borrow.Author.Needs.{needs}
-use Rattle.change.proofs.is_parent.Statement.{statement}
-use Rattle.change.proofs.is_parent.Tie as tie
+use Rattle.network.proofs.is_parent.Statement.{statement}
+use Rattle.network.proofs.is_parent.Tie as tie
 
 abbrev Inv-loop : tie.InvT-loop
 Inv-loop parents e u₀ u = Unnamed parents e u

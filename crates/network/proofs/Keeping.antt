@@ -1,0 +1,81 @@
+-- A link that is put is read back, and every other stays; the numbers of a link, where they stand in a row. Assumes nothing.
+use mathlib.Core.Path.{_≡_, refl, sym, ap, _∙_}
+use mathlib.Core.List.{List, []}
+use Prim.Native.Nat.{ℕ, _+_, _*_, _<_, _≤_}
+use native.Mathlib.Omega.{arith}
+use lib.ListN.{length, getD, drop, drop-of-length-le}
+use lib.Seq.{sets}
+use borrow.Author.Tests.{lt-ltb, le-ltb}
+use Rattle.edition.specs.Limits.{linkWidth}
+use Rattle.rows.specs.Records.{withRecord, firstRecords, pastRecords, recordIn}
+use Rattle.rows.proofs.Put as put
+use Rattle.network.specs.declared.Link.{Link}
+use Rattle.network.specs.Network.{linksIn, linkRow, linkFrom, linkIn, putLink, pastLinks}
+
+pub link-sized : (l : Link) → length (linkRow l) ≡ linkWidth
+unfolding linkRow
+link-sized l = refl
+
+-- the numbers of a link are that link
+pub link-from : (l : Link) → linkFrom (linkRow l) ≡ l
+unfolding linkFrom linkRow
+link-from l = refl
+
+module _ (row : List ℕ) (e : ℕ) where
+  pub link-none : linksIn row ≤ e → linkFrom [] ≡ linkIn row e
+  unfolding linkIn
+  link-none h = ap linkFrom (sym (put.record-none linkWidth row e h))
+
+  module _ (h : e < linksIn row) where
+    number : (i : ℕ) → i < linkWidth → getD row (e * linkWidth + i) 0 ≡ getD (recordIn linkWidth row e) i 0
+    number i l = sym (put.record-number linkWidth row e i h l)
+
+    zeroth : getD row (e * linkWidth) 0 ≡ getD (recordIn linkWidth row e) 0 0
+    zeroth =
+        let none : e * linkWidth ≡ e * linkWidth + 0 = omega arith in
+        ap (λ (j : ℕ). getD row j 0) none ∙ number 0 (omega arith)
+
+    pub link-there : _≡_ {A = Link} (record { first = getD row (e * linkWidth) 0; second = getD row (e * linkWidth + 1) 0; length = getD row (e * linkWidth + 2) 0; mark = getD row (e * linkWidth + 3) 0 }) (linkIn row e)
+    unfolding linkIn linkFrom
+    link-there =
+        λ i.
+        record {
+          first = zeroth i;
+          second = number 1 (omega arith) i;
+          length = number 2 (omega arith) i;
+          mark = number 3 (omega arith) i;
+        }
+
+    pub put-stored : (l : Link) → sets row (e * linkWidth) (linkRow l) ≡ putLink row e l
+    unfolding putLink withRecord
+    put-stored l = rw (lt-ltb e (linksIn row) h)
+
+  pub put-nothing : (l : Link) → linksIn row ≤ e → row ≡ putLink row e l
+  unfolding putLink withRecord
+  put-nothing l h = rw (le-ltb e (linksIn row) h)
+
+  module _ (l : Link) where
+    pub put-count : linksIn (putLink row e l) ≡ linksIn row
+    unfolding putLink
+    put-count = put.put-count linkWidth row e (linkRow l)
+
+    -- what was put is read back
+    pub put-back : e < linksIn row → linkIn (putLink row e l) e ≡ l
+    unfolding linkIn putLink
+    put-back h = ap linkFrom (put.put-same linkWidth row e (linkRow l) (link-sized l) h) ∙ link-from l
+
+    -- every other record stays
+    pub put-kept : (k : ℕ) → (k ≡ e → ⊥) → linkIn (putLink row e l) k ≡ linkIn row k
+    unfolding linkIn putLink
+    put-kept k n = ap linkFrom (put.put-other linkWidth row e (linkRow l) (link-sized l) k n)
+
+-- two records may be put in either order
+pub put-swap : (row : List ℕ) (d e : ℕ) (k l : Link) → (d ≡ e → ⊥) → putLink (putLink row d k) e l ≡ putLink (putLink row e l) d k
+unfolding putLink
+put-swap row d e k l n = put.put-swap linkWidth row d e (linkRow k) (linkRow l) n (link-sized k) (link-sized l)
+
+pub past-end : (row : List ℕ) (m : ℕ) → linksIn row < m → drop (length row) row ≡ pastLinks m row
+unfolding pastLinks pastRecords
+past-end row m h =
+    drop-of-length-le row {i = length row} (omega arith)
+    ∙ sym (drop-of-length-le row {i = m * linkWidth} (omega arith))
