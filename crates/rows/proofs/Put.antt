@@ -167,7 +167,6 @@ module _ (w : ℕ) (row : List ℕ) (k : ℕ) (new : List ℕ) where
         getD-drop (n * w) (withRecord w row k new) i 0
         ∙ (put-beyond (n * w + i) (omega (arith, before w k n h)) ∙ sym (getD-drop (n * w) row i 0)))
 
-
 -- records one after the other, and more behind them
 module _ (w : ℕ) (f : ℕ → List ℕ) (n : ℕ) (sized : (x : ℕ) → x < n → length (f x) ≡ w) (more : List ℕ) where
   pub rows-past : pastRecords w n (rowsTo f n ++ more) ≡ more

@@ -2,16 +2,16 @@
 use mathlib.Core.Path.{_≡_, refl, sym, subst, ap, _∙_}
 use mathlib.Core.Bool.{Bool, true, false, cond, _||_}
 use mathlib.Core.List.{List}
-use Prim.Native.Nat.{ℕ, suc, _*_, _<_, _≤_}
+use Prim.Native.Nat.{ℕ, suc, _<_, _≤_}
 use native.Mathlib.Omega.{arith}
 use lib.Dec.{eqb, leb}
 use lib.ListN.{length, getD}
-use lib.Seq.{sets}
 use borrow.Author.Tests.{eqb-true, eq-eqb, ne-eqb}
 use Rattle.edition.specs.declared.Search.{Search}
 use Rattle.edition.specs.declared.Entry.{Entry}
-use Rattle.edition.specs.Limits.{entryWidth, wholeSearch}
+use Rattle.edition.specs.Limits.{wholeSearch}
 use Rattle.edition.specs.Entries.{entryRow}
+use Rattle.entries.specs.Row.{entriesIn, entryAt, putEntry}
 use Rattle.network.specs.Network.{Net, netOf}
 use Rattle.tree.specs.Tree.{hops}
 use Rattle.tree.proofs.InRows.{treeIn}
@@ -22,13 +22,13 @@ use Rattle.swap.specs.declared.Costs.{Costs}
 use Rattle.swap.proofs.Prefixes.{entry-offered}
 use Rattle.table.specs.declared.Side.{Side}
 use Rattle.table.specs.Table.{marked}
-use Rattle.table.specs.Work.{Entries, entryAt, Carries, Crossing, Priced, want, OfferedAt, withinBy}
+use Rattle.table.specs.Work.{Entries, Carries, Crossing, Priced, want, OfferedAt, withinBy}
 use Rattle.table.proofs.Slots.{entry-known, entries-put}
 
 -- the same records, told otherwise
 pub entries-same : (n : ℕ) (f g : ℕ → List ℕ) (before row : List ℕ) → ((x : ℕ) → x < n → f x ≡ g x) → Entries n f before row → Entries n g before row
 entries-same n f g before row q h =
-    record { size = h .size; each = λ x i l m. h .each x i l m ∙ ap (λ (r : List ℕ). getD r i 0) (q x l); rest = h .rest }
+    record { size = h .size; each = λ x l. h .each x l ∙ q x l; rest = h .rest }
 
 module _ (g : Net) (marks before : List ℕ) where
   want-marked : (k x : ℕ) → marked marks x ≡ true → want g marks before k x ≡ entryRow (entry (firstLinks g k) x)
@@ -76,7 +76,7 @@ module _ (links parents : List ℕ) (search : Search) (marks : List ℕ) (s : Si
       w ∙ ap (λ (o : Entry). offered o b e v) p ∙
       sym (entry-offered (netOf links parents search) (s .climb .node) off e (c .cross) b (near-is b q) v (r .sum-is) (r .incr-is) (r .max-is))
 
-  pub offered-one : (m : ℕ) → m ≡ getD marks (s .climb .node) 0 → (m ≡ 0 → ⊥) → (row row′ : List ℕ) → length parents * entryWidth ≤ length row → (old new : Entry) (b : Bool) (v : Costs) → old ≡ entryAt row (s .climb .node) → b ≡ withinBy (search .depth) (s .climb .hops) → Priced (netOf links parents search) (s .climb .node) e v → new ≡ offered old b e v → row′ ≡ sets row (s .climb .node * entryWidth) (entryRow new) → OfferedAt (netOf links parents search) (length parents) marks e (s .climb .node) row row′
+  pub offered-one : (m : ℕ) → m ≡ getD marks (s .climb .node) 0 → (m ≡ 0 → ⊥) → (row row′ : List ℕ) → length parents ≤ entriesIn row → (old new : Entry) (b : Bool) (v : Costs) → old ≡ entryAt row (s .climb .node) → b ≡ withinBy (search .depth) (s .climb .hops) → Priced (netOf links parents search) (s .climb .node) e v → new ≡ offered old b e v → row′ ≡ putEntry row (s .climb .node) new → OfferedAt (netOf links parents search) (length parents) marks e (s .climb .node) row row′
   offered-one m q z row row′ room old new b v p bq r w u =
       record {
         goes-on =

@@ -2,18 +2,17 @@
 use mathlib.Core.Path.{_≡_, refl, sym, subst, ap, _∙_}
 use mathlib.Core.Bool.{Bool, true, false, cond}
 use mathlib.Core.List.{List}
-use Prim.Native.Nat.{ℕ, suc, _+_, _*_, _<_, _≤_}
+use Prim.Native.Nat.{ℕ, suc, _+_, _<_, _≤_}
 use native.Mathlib.Omega.{arith}
 use lib.Dec.{eqb, ltb}
-use lib.ListN.{length, drop}
-use lib.Seq.{sets, getD-take, getD-drop}
+use lib.ListN.{length}
 use borrow.Author.Tests.{eqb-true, eqb-false, ltb-true, ltb-false, lt-ltb, le-ltb}
 use Rattle.edition.specs.declared.Entry.{Entry}
-use Rattle.edition.specs.Limits.{entryWidth}
 use Rattle.edition.specs.Entries.{rootState, bridgeState, blank, entryRow}
 use Rattle.network.specs.Network.{Net}
 use Rattle.swap.proofs.Prefixes.{entry-top, entry-none}
-use Rattle.table.specs.Table.{standing, marked}
+use Rattle.entries.specs.Row.{entriesIn, standing, putEntry}
+use Rattle.table.specs.Table.{marked}
 use Rattle.table.specs.Work.{Entries, want, startAt, Linked, LinkedTo}
 use Rattle.table.proofs.Slots.{entries-put}
 use Rattle.table.proofs.Offering.{entries-same}
@@ -23,13 +22,7 @@ next k = omega arith
 
 -- a row as it stands
 entries-stand : (n : ℕ) (row : List ℕ) → Entries n (standing row) row row
-unfolding standing
-entries-stand n row =
-    record {
-      size = refl;
-      each = λ x i l m. sym (getD-take entryWidth (drop (x * entryWidth) row) i 0 m ∙ getD-drop (x * entryWidth) row i 0);
-      rest = λ j l. refl;
-    }
+entries-stand n row = record { size = refl; each = λ x l. refl; rest = refl }
 
 -- the first k nodes have one record, all others another
 abbrev pub upToNode : ℕ → (ℕ → List ℕ) → (ℕ → List ℕ) → ℕ → List ℕ
@@ -57,7 +50,7 @@ module _ (root : ℕ) (marks before : List ℕ) (n : ℕ) where
   pub clear-start : Entries n (upToNode 0 (startAt root marks before) (standing before)) before before
   clear-start = entries-same n (standing before) _ before before (λ x l. rw (le-ltb x 0 (omega arith))) (entries-stand n before)
 
-  module _ (k : ℕ) (l : k < n) (room : n * entryWidth ≤ length before) (row : List ℕ) (h : Entries n (upToNode k (startAt root marks before) (standing before)) before row) where
+  module _ (k : ℕ) (l : k < n) (room : n ≤ entriesIn before) (row : List ℕ) (h : Entries n (upToNode k (startAt root marks before) (standing before)) before row) where
     abbrev first : Entry
     first = blank (cond (eqb k root) rootState bridgeState)
 
@@ -69,13 +62,13 @@ module _ (root : ℕ) (marks before : List ℕ) (n : ℕ) where
         kept x true p = rw (le-ltb x k (omega (arith, eqb-true k x p))) (ap (standing before) (sym (eqb-true k x p)) ∙ sym (unmarked-stands root marks before k z))
         kept x false p = refl
 
-    clear-one : marked marks k ≡ true → Entries n (upToNode (suc k) (startAt root marks before) (standing before)) before (sets row (k * entryWidth) (entryRow first))
+    clear-one : marked marks k ≡ true → Entries n (upToNode (suc k) (startAt root marks before) (standing before)) before (putEntry row k first)
     clear-one z =
         entries-same n _ _ before _
         (λ x j. ap (λ (r : List ℕ). cond (eqb k x) r (upToNode k (startAt root marks before) (standing before) x)) (sym (marked-starts root marks before k z)) ∙ node-more k (startAt root marks before) (standing before) x)
         (entries-put n _ before row k first h l room)
 
-    pub clear-more : (row′ : List ℕ) → row′ ≡ cond (marked marks k) (sets row (k * entryWidth) (entryRow (blank (cond (eqb k root) rootState bridgeState)))) row → Entries n (upToNode (k + 1) (startAt root marks before) (standing before)) before row′
+    pub clear-more : (row′ : List ℕ) → row′ ≡ cond (marked marks k) (putEntry row k (blank (cond (eqb k root) rootState bridgeState))) row → Entries n (upToNode (k + 1) (startAt root marks before) (standing before)) before row′
     clear-more row′ u = subst (λ (j : ℕ). Entries n (upToNode j (startAt root marks before) (standing before)) before row′) (next k) (go (marked marks k) refl)
       where
         go : (b : Bool) → marked marks k ≡ b → Entries n (upToNode (suc k) (startAt root marks before) (standing before)) before row′

@@ -2,23 +2,30 @@
 use mathlib.Core.Path.{_≡_, sym, _∙_}
 use mathlib.Core.Bool.{true}
 use mathlib.Core.List.{List}
-use Prim.Native.Nat.{ℕ, _*_, _<_, _≤_}
+use Prim.Native.Nat.{ℕ, _<_, _≤_}
 use native.Mathlib.Omega.{arith}
-use lib.ListN.{length, set, replicate, length-replicate}
+use lib.ListN.{set, replicate, length-replicate}
+use lib.Dec.{leb}
 use borrow.Author.Tests.{leb-false, le-ltb}
 use Rattle.edition.specs.declared.Verdict.{Verdict}
 use Rattle.edition.specs.declared.Verdict.the-variants.{Taken, Refused}
 use Rattle.edition.specs.declared.Refusal.{Refusal}
 use Rattle.edition.specs.declared.Entry.{Entry}
-use Rattle.edition.specs.Limits.{nodeLimit, entryWidth}
+use Rattle.edition.specs.Limits.{nodeLimit, entryRoom}
 use Rattle.network.specs.Network.{Net}
-use Rattle.sound.specs.Sound.{netVerdict}
+use Rattle.sound.specs.declared.Sizes.{Sizes}
+use Rattle.sound.specs.declared.Checked.{Checked}
+use Rattle.sound.specs.declared.Checked.the-variants.{Sound}
+use Rattle.sound.specs.Sound.{netVerdict, checked}
+use Rattle.sound.proofs.Handing.{sound-told, handed-then}
 use Rattle.sound.proofs.Sounds.{sound}
 use Rattle.sound.proofs.Holding.{nodes-few}
 use Rattle.swap.specs.Entry.{entry}
-use Rattle.table.specs.Table.{marked, freshAt, tableVerdict, entriesIn, entryVerdict, entryAnswer}
+use Rattle.table.specs.Table.{marked, freshAt, tableVerdict, entryVerdict, entryAnswer}
 use Rattle.table.specs.declared.EntryAnswer.the-variants.{Is, Not}
-use Rattle.table.specs.Work.{Entries, entryAt}
+use Rattle.table.specs.Work.{Entries}
+use Rattle.entries.specs.Row.{entriesIn, entryAt}
+use Rattle.rows.specs.First.{refuseIf}
 use Rattle.rows.proofs.Refusing.{head-taken, rest-taken, if-taken, if-passes, both-taken, none-left, head-refuses}
 use Rattle.edition.specs.declared.Why.the-variants.{NoRoute, NoRoom}
 use lib.Seq.{getD-set-same}
@@ -30,10 +37,10 @@ onlyMark x = set (replicate nodeLimit 0) x 1
 
 -- the row that the run is lent
 abbrev pub bareRow : List ℕ
-bareRow = replicate (nodeLimit * entryWidth) 0
+bareRow = replicate entryRoom 0
 
-pub bare-room : (n : ℕ) → n ≤ nodeLimit → n * entryWidth ≤ length bareRow
-bare-room n l = omega (arith, length-replicate {A = ℕ} (nodeLimit * entryWidth) 0)
+pub bare-room : (n : ℕ) → n ≤ nodeLimit → n ≤ entriesIn bareRow
+bare-room n l = omega (arith, length-replicate {A = ℕ} entryRoom 0)
 
 -- a row for all nodes that there can be is never too short
 pub bare-verdict : (g : Net) (v : Verdict) → netVerdict g ≡ v → tableVerdict g bareRow ≡ v
@@ -42,13 +49,21 @@ bare-verdict g Taken q =
     both-taken _ _ q (both-taken _ _ (if-passes _ NoRoom 0 (le-ltb (entriesIn bareRow) (g .nodes) room)) none-left)
   where
     room : g .nodes ≤ entriesIn bareRow
-    room = omega (arith, nodes-few g (sound g q), length-replicate {A = ℕ} (nodeLimit * entryWidth) 0)
+    room = omega (arith, nodes-few g (sound g q), length-replicate {A = ℕ} entryRoom 0)
 bare-verdict g (Refused r) q = head-refuses _ _ r q
 
 mark-set : (x : ℕ) → x < nodeLimit → marked (onlyMark x) x ≡ true
 unfolding marked
 mark-set x l =
     rw (getD-set-same {A = ℕ} (replicate nodeLimit 0) x 1 0 (omega (arith, l, length-replicate {A = ℕ} nodeLimit 0)))
+
+-- 8 at x, behind the check of the network
+pub entry-judged : (g : Net) (x : ℕ) (s : Checked) (z : Sizes) → s ≡ checked g → s ≡ Sound z → (w : Verdict) → w ≡ refuseIf (leb (z .nodes) x) NoRoute x → w ≡ entryVerdict g x
+unfolding entryVerdict
+entry-judged g x s z e t w q =
+    q
+    ∙ (λ i. refuseIf (leb (sound-told g s z e t .1 i) x) NoRoute x)
+    ∙ handed-then g s e z t (refuseIf (leb (g .nodes) x) NoRoute x)
 
 module _ (g : Net) (x : ℕ) where
   -- what the run leaves at x

@@ -1,16 +1,16 @@
 -- The table: an entry a node, in node order, in a lent row. Assumes nothing.
 use mathlib.Core.Bool.{Bool, cond, not}
 use mathlib.Core.List.{List, [], _∷_, _++_}
-use Prim.Native.Nat.{ℕ, _*_, _/_}
+use Prim.Native.Nat.{ℕ}
 use lib.Dec.{eqb, ltb, leb}
-use lib.ListN.{length, getD, take, drop}
+use lib.ListN.{getD}
 use Rattle.edition.specs.declared.Verdict.{Verdict}
 use Rattle.edition.specs.declared.Verdict.the-variants.{Taken, Refused}
 use Rattle.edition.specs.declared.Why.the-variants.{NoRoute, NoRoom}
 use Rattle.edition.specs.declared.Entry.{Entry}
-use Rattle.edition.specs.Limits.{entryWidth}
 use Rattle.edition.specs.Refusals.{made}
 use Rattle.edition.specs.Entries.{entryRow}
+use Rattle.entries.specs.Row.{entriesIn, standing, pastEntries}
 use Rattle.rows.specs.Count.{rowsTo}
 use Rattle.rows.specs.First.{refuseIf, firstly}
 use Rattle.network.specs.Network.{Net}
@@ -23,21 +23,13 @@ use Rattle.table.specs.declared.EntryAnswer.the-variants.{Is, Not}
 unfoldable pub table : Net → List ℕ
 table g = rowsTo (λ x. entryRow (entry g x)) (g .nodes)
 
--- How many whole entries a row holds.
-abbrev pub entriesIn : List ℕ → ℕ
-entriesIn row = length row / entryWidth
-
--- The record of x in a row of entries, as it stands.
-unfoldable pub standing : List ℕ → ℕ → List ℕ
-standing row x = take entryWidth (drop (x * entryWidth) row)
-
 -- 1 to 9, then 10 where fewer entries are lent than there are nodes.
 unfoldable pub tableVerdict : Net → List ℕ → Verdict
 tableVerdict g row = firstly (netVerdict g ∷ refuseIf (ltb (entriesIn row) (g .nodes)) NoRoom 0 ∷ [])
 
 -- What the lent row then holds: the table and what lay past it, or on a refusal what it held.
 unfoldable pub tableRow : Net → List ℕ → List ℕ
-tableRow g row = let new = table g ++ drop (g .nodes * entryWidth) row in made (tableVerdict g row) new row
+tableRow g row = let new = table g ++ pastEntries (g .nodes) row in made (tableVerdict g row) new row
 
 -- One node's entry: 1 to 9, then 8 at x where x is no node.
 unfoldable pub entryVerdict : Net → ℕ → Verdict
@@ -62,5 +54,5 @@ freshAt g marks row x = cond (marked marks x) (entryRow (entry g x)) (standing r
 -- The lent row with the entries of the marked nodes afresh, or on a refusal what it held.
 unfoldable pub freshRow : Net → List ℕ → List ℕ → List ℕ
 freshRow g marks row =
-    let new = rowsTo (freshAt g marks row) (g .nodes) ++ drop (g .nodes * entryWidth) row in
+    let new = rowsTo (freshAt g marks row) (g .nodes) ++ pastEntries (g .nodes) row in
     made (tableVerdict g row) new row

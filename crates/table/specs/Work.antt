@@ -2,11 +2,10 @@
 use mathlib.Core.Path.{_≡_}
 use mathlib.Core.Bool.{Bool, true, false, cond, not, _&&_, _||_}
 use mathlib.Core.List.{List}
-use Prim.Native.Nat.{ℕ, suc, _+_, _*_, _-_, _^_, _<_, _≤_, max}
+use Prim.Native.Nat.{ℕ, suc, _+_, _-_, _^_, _<_, _≤_, max}
 use lib.Dec.{eqb, leb}
 use lib.ListN.{length, getD, set}
-use Rattle.edition.specs.declared.Entry.{Entry}
-use Rattle.edition.specs.Limits.{entryWidth, wholeSearch}
+use Rattle.edition.specs.Limits.{wholeSearch}
 use Rattle.edition.specs.Entries.{rootState, bridgeState, blank, entryRow}
 use Rattle.rows.specs.Count.{sumTo, maxTo, onlyIf}
 use Rattle.edition.specs.declared.Measure.the-variants.{Sum, Incr, Max}
@@ -19,7 +18,8 @@ use Rattle.tree.specs.Work.{Along}
 use Rattle.swap.specs.Entry.{entry}
 use Rattle.swap.specs.Prefix.{firstLinks}
 use Rattle.table.specs.declared.Side.{Side}
-use Rattle.table.specs.Table.{standing, marked}
+use Rattle.entries.specs.Row.{standing, pastEntries}
+use Rattle.table.specs.Table.{marked}
 
 -- a row holds f of each node
 pub record Holds (n : ℕ) (f : ℕ → ℕ) (row : List ℕ) : Type 0 where
@@ -93,22 +93,11 @@ pub record Asides (t : Tree) (n : ℕ) (row : List ℕ) : Type 0 where
   pub room : n ≤ length row
   pub each : (x : ℕ) → x < n → eqb x (t .root) ≡ false → getD row x 0 ≡ aside t x
 
--- the entry whose record is that of x in a row
-unfoldable pub entryAt : List ℕ → ℕ → Entry
-entryAt row x =
-    let at = x * entryWidth in
-    record {
-      state = getD row at 0;
-      sum = record { link = getD row (at + 1) 0; cost = getD row (at + 4) 0 };
-      incr = record { link = getD row (at + 2) 0; cost = getD row (at + 5) 0 };
-      max = record { link = getD row (at + 3) 0; cost = getD row (at + 6) 0 };
-    }
-
 -- a row of entries that holds the record f of each node, and past them what another row holds
 pub record Entries (n : ℕ) (f : ℕ → List ℕ) (before after : List ℕ) : Type 0 where
   pub size : length after ≡ length before
-  pub each : (x i : ℕ) → x < n → i < entryWidth → getD after (x * entryWidth + i) 0 ≡ getD (f x) i 0
-  pub rest : (j : ℕ) → n * entryWidth ≤ j → getD after j 0 ≡ getD before j 0
+  pub each : (x : ℕ) → x < n → standing after x ≡ f x
+  pub rest : pastEntries n after ≡ pastEntries n before
 
 -- a climb from z, with the largest t(u,z) over the nodes below where it is
 pub record Carries (t : Tree) (z : ℕ) (s : Side) : Type 0 where

@@ -4,9 +4,8 @@ ghost use Prim.Native.Nat.{_+_, _*_, _<_, _≤_, _^_, max};
 ghost use lib.ListN.{length, getD};
 ghost use lib.Dec.{eqb};
 ghost use mathlib.Core.Bool.{cond};
-ghost use lib.Seq.{sets};
-ghost use Rattle.edition.specs.Limits.{nodeLimit, entryWidth};
-ghost use Rattle.edition.specs.Entries.{entryRow, blank, rootState, bridgeState};
+ghost use Rattle.entries.specs.Row.{entriesIn, putEntry};
+ghost use Rattle.edition.specs.Entries.{blank, rootState, bridgeState};
 ghost use Rattle.edition.specs.declared.Verdict.the-variants.{Taken};
 ghost use Rattle.network.specs.Network.{netOf, linksIn};
 ghost use Rattle.rows.specs.Count.{rowWith};
@@ -14,16 +13,16 @@ ghost use Rattle.tree.specs.Tree.{treeOf, dist};
 ghost use Rattle.sound.specs.Sound.{netVerdict};
 ghost use Rattle.swap.specs.Entry.{entry};
 ghost use Rattle.swap.specs.Fold.{count as countOf, weight as weightOf, stem, base as baseOf, turn as turnOf, deepest};
-ghost use Rattle.table.specs.Work.{Holds, FoldedAt, Foldable, Added, Counted, placed, Raised, Passed, Asides, entryAt, Carries, Crossing, Priced, Ready, OfferedAt, withinBy, Spare, Starting, Linked, LinkedTo, Entries, startAt};
+ghost use Rattle.table.specs.Work.{Holds, FoldedAt, Foldable, Added, Counted, placed, Raised, Passed, Asides, Carries, Crossing, Priced, Ready, OfferedAt, withinBy, Spare, Starting, Linked, LinkedTo, Entries, startAt};
 ghost use Rattle.table.specs.Table.{marked, freshAt, tableVerdict, freshRow, tableRow, entryVerdict, entryAnswer};
 use edition::Edition;
 use edition::Entry;
 use edition::Memory;
 use edition::Refusal;
 use edition::Search;
-use edition::Swap;
 use edition::Verdict;
 use edition::Why;
+use sound::Checked;
 use swap::Costs;
 use tree::Climb;
 
@@ -219,47 +218,6 @@ fn fill_asides(links: &[u16], parents: &[u16], search: Search, deep: &[u64], out
     pass(links, parents, search, deep, true, &mut second, out);
 }
 
-// The entry of node x in a row of entries.
-fn get(entries: &[u64], x: usize) -> Entry
-    requires { ⌜ (x < nodeLimit) × (x * entryWidth + entryWidth ≤ length (now entries)) ⌝ }
-    ensures { λ r. ⌜ r ≡ entryAt (now (entries .entry)) x ⌝ }
-{
-    let at = x * Memory::ENTRY;
-    let sum = Swap {
-        link: entries[at + 1],
-        cost: entries[at + 4],
-    };
-    let incr = Swap {
-        link: entries[at + 2],
-        cost: entries[at + 5],
-    };
-    let max = Swap {
-        link: entries[at + 3],
-        cost: entries[at + 6],
-    };
-    Entry {
-        state: entries[at],
-        sum,
-        incr,
-        max,
-    }
-}
-
-// Writes the entry of node x into a row of entries.
-fn put(entries: &mut [u64], x: usize, e: Entry)
-    requires { ⌜ (x < nodeLimit) × (x * entryWidth + entryWidth ≤ length (now entries)) ⌝ }
-    ensures { λ _. ⌜ now (entries .exit) ≡ sets (now (entries .entry)) (x * entryWidth) (entryRow e) ⌝ }
-{
-    let at = x * Memory::ENTRY;
-    entries[at] = e.state;
-    entries[at + 1] = e.sum.link;
-    entries[at + 2] = e.incr.link;
-    entries[at + 3] = e.max.link;
-    entries[at + 4] = e.sum.cost;
-    entries[at + 5] = e.incr.cost;
-    entries[at + 6] = e.max.cost;
-}
-
 // A climb that begins at z.
 fn begin_side(
     links: &[u16],
@@ -360,7 +318,7 @@ fn offer_at(
     e: usize,
     k: u64,
 )
-    requires { ⌜ (netVerdict (netOf (now links) (now parents) search) ≡ Taken) × Ready (treeOf (netOf (now links) (now parents) search)) (length (now parents)) (now near) (now count) (now bases) (now turns) × Carries (treeOf (netOf (now links) (now parents) search)) (side .from) side × (side .from < length (now parents)) × Crossing (netOf (now links) (now parents) search) e side k × (side .climb .node ≡ search .root → ⊥) × (length (now parents) * entryWidth ≤ length (now entries)) ⌝ }
+    requires { ⌜ (netVerdict (netOf (now links) (now parents) search) ≡ Taken) × Ready (treeOf (netOf (now links) (now parents) search)) (length (now parents)) (now near) (now count) (now bases) (now turns) × Carries (treeOf (netOf (now links) (now parents) search)) (side .from) side × (side .from < length (now parents)) × Crossing (netOf (now links) (now parents) search) e side k × (side .climb .node ≡ search .root → ⊥) × (length (now parents) ≤ entriesIn (now entries)) ⌝ }
     ensures { λ _. ⌜ OfferedAt (netOf (now (links .entry)) (now (parents .entry)) search) (length (now (parents .entry))) (now (marks .entry)) e (side .climb .node) (now (entries .entry)) (now (entries .exit)) ⌝ }
 {
     let climb = side.climb;
@@ -381,8 +339,8 @@ fn offer_at(
         k,
     );
     let near_enough = is_within(search.depth, climb.hops);
-    let new = swap::with_link(get(entries, x), near_enough, e as u64, c);
-    put(entries, x, new);
+    let new = swap::with_link(entries::entry_at(entries, x), near_enough, e as u64, c);
+    entries::put_entry(entries, x, new);
 }
 
 // The node where a climb is.
@@ -418,7 +376,7 @@ fn climb_link(
     e: usize,
     k: u64,
 )
-    requires { ⌜ (netVerdict (netOf (now links) (now parents) search) ≡ Taken) × Ready (treeOf (netOf (now links) (now parents) search)) (length (now parents)) (now near) (now count) (now bases) (now turns) × Asides (treeOf (netOf (now links) (now parents) search)) (length (now parents)) (now asides) × Spare (netOf (now links) (now parents) search) e k × Starting (netOf (now links) (now parents) search) e first second × (length (now parents) * entryWidth ≤ length (now entries)) ⌝ }
+    requires { ⌜ (netVerdict (netOf (now links) (now parents) search) ≡ Taken) × Ready (treeOf (netOf (now links) (now parents) search)) (length (now parents)) (now near) (now count) (now bases) (now turns) × Asides (treeOf (netOf (now links) (now parents) search)) (length (now parents)) (now asides) × Spare (netOf (now links) (now parents) search) e k × Starting (netOf (now links) (now parents) search) e first second × (length (now parents) ≤ entriesIn (now entries)) ⌝ }
     ensures { λ _. ⌜ Linked (netOf (now (links .entry)) (now (parents .entry)) search) (length (now (parents .entry))) (now (marks .entry)) e (now (entries .entry)) (now (entries .exit)) ⌝ }
 {
     let mut a = first;
@@ -475,7 +433,7 @@ fn offer_link(
     entries: &mut [u64],
     e: usize,
 )
-    requires { ⌜ (netVerdict (netOf (now links) (now parents) search) ≡ Taken) × Ready (treeOf (netOf (now links) (now parents) search)) (length (now parents)) (now near) (now count) (now bases) (now turns) × Asides (treeOf (netOf (now links) (now parents) search)) (length (now parents)) (now asides) × Holds (length (now parents)) (deepest (treeOf (netOf (now links) (now parents) search))) (now deep) × (length (now parents) * entryWidth ≤ length (now entries)) × (e < linksIn (now links)) ⌝ }
+    requires { ⌜ (netVerdict (netOf (now links) (now parents) search) ≡ Taken) × Ready (treeOf (netOf (now links) (now parents) search)) (length (now parents)) (now near) (now count) (now bases) (now turns) × Asides (treeOf (netOf (now links) (now parents) search)) (length (now parents)) (now asides) × Holds (length (now parents)) (deepest (treeOf (netOf (now links) (now parents) search))) (now deep) × (length (now parents) ≤ entriesIn (now entries)) × (e < linksIn (now links)) ⌝ }
     ensures { λ _. ⌜ Linked (netOf (now (links .entry)) (now (parents .entry)) search) (length (now (parents .entry))) (now (marks .entry)) e (now (entries .entry)) (now (entries .exit)) ⌝ }
 {
     let l = network::link_at(links, e);
@@ -523,18 +481,17 @@ fn first_entry(search: Search, x: usize) -> Entry
 
 // The entry of x as it is before any link, where x is marked.
 fn clear_at(search: Search, marks: &[u64], entries: &mut [u64], x: usize)
-    requires { ⌜ (x < nodeLimit) × (x * entryWidth + entryWidth ≤ length (now entries)) ⌝ }
-    ensures { λ _. ⌜ now (entries .exit) ≡ cond (marked (now (marks .entry)) x) (sets (now (entries .entry)) (x * entryWidth) (entryRow (blank (cond (eqb x (search .root)) rootState bridgeState)))) (now (entries .entry)) ⌝ }
+    ensures { λ _. ⌜ now (entries .exit) ≡ cond (marked (now (marks .entry)) x) (putEntry (now (entries .entry)) x (blank (cond (eqb x (search .root)) rootState bridgeState))) (now (entries .entry)) ⌝ }
 {
     if rows::wide_at(marks, x) == 0 {
         return;
     }
-    put(entries, x, first_entry(search, x));
+    entries::put_entry(entries, x, first_entry(search, x));
 }
 
 // Each marked node's entry as it is before any link.
 fn clear_marked(parents: &[u16], search: Search, marks: &[u64], entries: &mut [u64])
-    requires { ⌜ (length (now parents) ≤ nodeLimit) × (length (now parents) * entryWidth ≤ length (now entries)) ⌝ }
+    requires { ⌜ length (now parents) ≤ entriesIn (now entries) ⌝ }
     ensures { λ _. ⌜ Entries (length (now (parents .entry))) (startAt (search .root) (now (marks .entry)) (now (entries .entry))) (now (entries .entry)) (now (entries .exit)) ⌝ }
 {
     let mut x = 0;
@@ -558,7 +515,7 @@ fn offer_links(
     marks: &[u64],
     entries: &mut [u64],
 )
-    requires { ⌜ (netVerdict (netOf (now links) (now parents) search) ≡ Taken) × Ready (treeOf (netOf (now links) (now parents) search)) (length (now parents)) (now near) (now count) (now bases) (now turns) × Asides (treeOf (netOf (now links) (now parents) search)) (length (now parents)) (now asides) × Holds (length (now parents)) (deepest (treeOf (netOf (now links) (now parents) search))) (now deep) × (length (now parents) * entryWidth ≤ length (now entries)) ⌝ }
+    requires { ⌜ (netVerdict (netOf (now links) (now parents) search) ≡ Taken) × Ready (treeOf (netOf (now links) (now parents) search)) (length (now parents)) (now near) (now count) (now bases) (now turns) × Asides (treeOf (netOf (now links) (now parents) search)) (length (now parents)) (now asides) × Holds (length (now parents)) (deepest (treeOf (netOf (now links) (now parents) search))) (now deep) × (length (now parents) ≤ entriesIn (now entries)) ⌝ }
     ensures { λ _. ⌜ LinkedTo (netOf (now (links .entry)) (now (parents .entry)) search) (length (now (parents .entry))) (now (marks .entry)) (linksIn (now (links .entry))) (now (entries .entry)) (now (entries .exit)) ⌝ }
 {
     let m = network::links_in(links);
@@ -584,7 +541,7 @@ fn offer_links(
 
 // The entries of the marked nodes afresh; all others, and what lies past the entries, stay as they are.
 fn search_marked(links: &[u16], parents: &[u16], search: Search, marks: &[u64], entries: &mut [u64])
-    requires { ⌜ (netVerdict (netOf (now links) (now parents) search) ≡ Taken) × (length (now parents) * entryWidth ≤ length (now entries)) ⌝ }
+    requires { ⌜ (netVerdict (netOf (now links) (now parents) search) ≡ Taken) × (length (now parents) ≤ entriesIn (now entries)) ⌝ }
     ensures { λ _. ⌜ Entries (length (now (parents .entry))) (freshAt (netOf (now (links .entry)) (now (parents .entry)) search) (now (marks .entry)) (now (entries .entry))) (now (entries .entry)) (now (entries .exit)) ⌝ }
 {
     let mut near = [0u64; Memory::NODES];
@@ -635,15 +592,11 @@ fn search_marked(links: &[u16], parents: &[u16], search: Search, marks: &[u64], 
 pub fn check_table(links: &[u16], parents: &[u16], search: Search, entries: &[u64]) -> Verdict
     ensures { λ r. ⌜ r ≡ tableVerdict (netOf (now (links .entry)) (now (parents .entry)) search) (now (entries .entry)) ⌝ }
 {
-    let said = sound::verdict(links, parents, search);
-    let Verdict::Taken = said else {
-        return said;
+    let said = sound::check_network(links, parents, search);
+    let Checked::Sound(sizes) = said else {
+        return sound::handed_up(said);
     };
-    rows::refuse_if(
-        entries.len() / Memory::ENTRY < parents.len(),
-        Why::NoRoom,
-        0,
-    )
+    rows::refuse_if(entries::entries_in(entries) < sizes.nodes, Why::NoRoom, 0)
 }
 
 // The entries of the marked nodes afresh, all others unwritten. A node is marked by a number that is not 0.
@@ -676,11 +629,11 @@ pub fn table(links: &[u16], parents: &[u16], search: Search, entries: &mut [u64]
 pub fn check_entry(links: &[u16], parents: &[u16], search: Search, x: usize) -> Verdict
     ensures { λ r. ⌜ r ≡ entryVerdict (netOf (now (links .entry)) (now (parents .entry)) search) x ⌝ }
 {
-    let said = sound::verdict(links, parents, search);
-    let Verdict::Taken = said else {
-        return said;
+    let said = sound::check_network(links, parents, search);
+    let Checked::Sound(sizes) = said else {
+        return sound::handed_up(said);
     };
-    rows::refuse_if(parents.len() <= x, Why::NoRoute, x)
+    rows::refuse_if(sizes.nodes <= x, Why::NoRoute, x)
 }
 
 // The entry of node x, by a run that works out no other.
@@ -690,9 +643,9 @@ fn search_one(links: &[u16], parents: &[u16], search: Search, x: usize) -> Entry
 {
     let mut marks = [0u64; Memory::NODES];
     marks[x] = 1;
-    let mut entries = [0u64; Memory::NODES * Memory::ENTRY];
+    let mut entries = [0u64; Memory::ENTRY_ROW];
     search_marked(links, parents, search, &marks, &mut entries);
-    get(&entries, x)
+    entries::entry_at(&entries, x)
 }
 
 // The entry of node x.

@@ -1,34 +1,47 @@
 -- `table::check_table` meets its contract. Assumes nothing.
 use Rattle.network.specs.Network.{netOf}
-use Rattle.rows.proofs.Refusing.{head-passes, only-one}
-use Rattle.rows.specs.First.{firstly}
+use Rattle.sound.proofs.Handing.{handed-first}
+use Rattle.table.proofs.Whole.{table-judged}
 use Rattle.table.specs.Table.{tableVerdict}
-use mathlib.Core.Path.{_∙_, sym}
 use borrow.Author.Needs.{needs}
 use Rattle.table.proofs.check_table.Statement.{statement}
 use Rattle.table.proofs.check_table.Tie as tie
 
-verdict-requires : tie.Need-verdict-requires
-verdict-requires c κs = search needs
+check-network-requires : tie.Need-check-network-requires
+check-network-requires c κs = search needs
+
+enum-known-said : tie.Need-enum-known-said
+enum-known-said c = search needs
 
 enum-told : tie.Need-enum-told
 enum-told c = search needs
 
-enum-told-2 : tie.Need-enum-told-2
-enum-told-2 c = search needs
+handed-up-requires : tie.Need-handed-up-requires
+handed-up-requires c κs = search needs
 
 returns : tie.Need-returns
-unfolding tableVerdict firstly
-returns c = rw (← c .before .before .verdict .ensures, c .enum-told2 .given .1)
+unfolding tableVerdict
+returns c = handed-first _ _ (c .before .before .before .check-network .ensures) _ (c .before .enum-told .given .1) _ _ (c .handed-up .ensures)
+
+entries-in-requires : tie.Need-entries-in-requires
+entries-in-requires c κs = search needs
 
 refuse-if-requires : tie.Need-refuse-if-requires
 refuse-if-requires c κs = search needs
 
 returns-2 : tie.Need-returns-2
-unfolding tableVerdict netOf
-returns-2 c = c .refuse-if .ensures ∙ sym (head-passes _ _ (sym (c .before .before .before .verdict .ensures) ∙ c .before .enum-told .given .1) ∙ only-one _)
+unfolding netOf
+returns-2 c = table-judged _ _ _ _ (c .before .before .before .before .before .before .check-network .ensures) (c .before .before .before .before .said .given .1) _ (c .before .before .entries-in .ensures) _ (c .refuse-if .ensures)
 
 pub check-table-spec : {M : Type 1} → statement M
 check-table-spec =
     tie.close
-    (tie.spec verdict-requires enum-told enum-told-2 returns refuse-if-requires returns-2)
+    (tie.spec
+    check-network-requires
+    enum-known-said
+    enum-told
+    handed-up-requires
+    returns
+    entries-in-requires
+    refuse-if-requires
+    returns-2)

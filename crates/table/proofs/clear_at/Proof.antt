@@ -13,16 +13,16 @@ returns c = rw (not-marked _ _ _ (c .before .wide-at .ensures) (c .if1 .taken))
 first-entry-requires : tie.Need-first-entry-requires
 first-entry-requires c κs = search needs
 
-put-requires : tie.Need-put-requires
-put-requires c κs = search needs
+put-entry-requires : tie.Need-put-entry-requires
+put-entry-requires c κs = search needs
 
 same-length : tie.Need-same-length
 same-length c = search needs
 
 returns-2 : tie.Need-returns-2
-returns-2 c = rw (is-marked _ _ _ (c .before .before .before .before .before .before .wide-at .ensures) (c .before .before .before .before .before .if1 .left), ← c .before .before .before .first-entry .ensures) (c .before .before .put .ensures)
+returns-2 c = rw (is-marked _ _ _ (c .before .before .before .before .before .before .wide-at .ensures) (c .before .before .before .before .before .if1 .left), ← c .before .before .before .first-entry .ensures) (c .before .before .put-entry .ensures)
 
 pub clear-at-spec : {M : Type 1} → statement M
 clear-at-spec =
     tie.close
-    (tie.spec wide-at-requires returns first-entry-requires put-requires same-length returns-2)
+    (tie.spec wide-at-requires returns first-entry-requires put-entry-requires same-length returns-2)

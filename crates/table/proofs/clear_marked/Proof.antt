@@ -1,7 +1,7 @@
 -- `table::clear_marked` meets its contract. Assumes nothing.
 use Rattle.table.proofs.Searching.{upToNode, clear-start, clear-more, clear-end}
 use Rattle.table.specs.Work.{Entries, startAt}
-use Rattle.table.specs.Table.{standing}
+use Rattle.entries.specs.Row.{standing}
 use Prim.Native.Nat.{_-_}
 use lib.ListN.{length}
 use native.Mathlib.Omega.{arith}
@@ -19,7 +19,7 @@ loop-holds : tie.Need-loop-holds Inv-loop μ-loop
 loop-holds c = clear-start _ _ _ _
 
 clear-at-requires : tie.Need-clear-at-requires Inv-loop μ-loop
-clear-at-requires c κs = (omega (arith, c .before .loop-test .taken, c .before .before .before .before .before .before .pre .0), omega (arith, c .before .loop-test .taken, c .before .before .before .before .before .before .pre .1, c .before .before .loop .inv .size))
+clear-at-requires c κs = search needs
 
 add-x : tie.Need-add-x Inv-loop μ-loop
 add-x c = search needs
@@ -28,7 +28,7 @@ loop-less : tie.Need-loop-less Inv-loop μ-loop
 loop-less c = omega (arith, c .before .before .before .before .loop-test .taken)
 
 loop-again : tie.Need-loop-again Inv-loop μ-loop
-loop-again c = clear-more _ _ _ _ _ (c .before .before .before .before .loop-test .taken) (c .before .before .before .before .before .before .before .before .before .pre .1) _ (c .before .before .before .before .before .loop .inv) _ (c .before .before .clear-at .ensures)
+loop-again c = clear-more _ _ _ _ _ (c .before .before .before .before .loop-test .taken) (c .before .before .before .before .before .before .before .before .before .pre) _ (c .before .before .before .before .before .loop .inv) _ (c .before .before .clear-at .ensures)
 
 same-length : tie.Need-same-length Inv-loop μ-loop
 same-length c = c .before .loop .inv .size

@@ -22,15 +22,15 @@ slice-aggregate-search-marked-2 c = search needs
 search-marked-requires : tie.Need-search-marked-requires
 search-marked-requires c κs = (c .before .before .before .before .pre .0, bare-room _ (small _ _ _ (c .before .before .before .before .pre .0) (λ i. omega (arith, c .before .before .before .shared-slice-known .given i))))
 
-slice-aggregate-get : tie.Need-slice-aggregate-get
-slice-aggregate-get c = search needs
+slice-aggregate-entry-at : tie.Need-slice-aggregate-entry-at
+slice-aggregate-entry-at c = search needs
 
-get-requires : tie.Need-get-requires
-get-requires c κs = omega (arith, c .before .before .before .before .before .before .before .pre .1, small _ _ _ (c .before .before .before .before .before .before .before .pre .0) (λ i. omega (arith, c .before .before .before .before .before .before .shared-slice-known .given i)))
+entry-at-requires : tie.Need-entry-at-requires
+entry-at-requires c κs = search needs
 
 returns : tie.Need-returns
 unfolding netOf
-returns c = one-known _ _ (c .before .before .before .before .before .before .before .before .pre .1) (c .before .before .before .before .before .before .before .before .pre .0) _ (c .before .before .before .search-marked .ensures) _ (c .get .ensures)
+returns c = one-known _ _ (c .before .before .before .before .before .before .before .before .pre .1) (c .before .before .before .before .before .before .before .before .pre .0) _ (c .before .before .before .search-marked .ensures) _ (c .entry-at .ensures)
 
 pub search-one-spec : {M : Type 1} → statement M
 search-one-spec =
@@ -41,6 +41,6 @@ search-one-spec =
     slice-aggregate-search-marked
     slice-aggregate-search-marked-2
     search-marked-requires
-    slice-aggregate-get
-    get-requires
+    slice-aggregate-entry-at
+    entry-at-requires
     returns)
