@@ -2,10 +2,10 @@
 use mathlib.Core.Path.{_≡_, refl, sym, ap, _∙_}
 use mathlib.Core.Bool.{Bool}
 use mathlib.Core.List.{List, _++_}
-use Prim.Native.Nat.{ℕ, _*_, _<_, _≤_}
+use Prim.Native.Nat.{ℕ, _<_, _≤_}
 use native.Mathlib.Omega.{arith}
 use lib.Dec.{leb}
-use lib.ListN.{length, drop, replicate, length-replicate}
+use lib.ListN.{length, replicate, length-replicate}
 use borrow.Author.Tests.{leb-false, le-ltb}
 use Rattle.edition.specs.declared.Change.{Change}
 use Rattle.edition.specs.declared.Refusal.{Refusal}
@@ -13,24 +13,25 @@ use Rattle.edition.specs.declared.Search.{Search}
 use Rattle.edition.specs.declared.Verdict.{Verdict}
 use Rattle.edition.specs.declared.Verdict.the-variants.{Taken, Refused}
 use Rattle.edition.specs.declared.Why.the-variants.{NoRoom, LinkMissing, BadMark, TreeLink, BreaksShort}
-use Rattle.edition.specs.Limits.{nodeLimit, entryWidth}
+use Rattle.edition.specs.Limits.{nodeLimit}
+use Rattle.entries.specs.Row.{entriesIn, pastEntries}
 use Rattle.rows.specs.Count.{rowsTo}
 use Rattle.rows.specs.First.{refuseIf}
 use Rattle.rows.specs.Lists.{differ}
 use Rattle.rows.proofs.Records.{rows-cong}
 use Rattle.rows.proofs.Refusing.{head-taken, head-refuses, head-passes, both-taken, none-left, if-taken, if-passes, only-one}
 use Rattle.network.specs.declared.Link.{Link}
-use Rattle.network.specs.Network.{linksIn, linkIn, netOf}
+use Rattle.network.specs.Network.{linksIn, linkIn, netOf, names}
 use Rattle.network.specs.Records.{badMark}
 use Rattle.tree.specs.Tree.{treeOf, under}
 use Rattle.sound.specs.Sound.{netVerdict}
 use Rattle.sound.proofs.Sounds.{taken}
 use Rattle.sound.proofs.Holding.{nodes-few, root-in, first-in, second-in, link-path}
-use Rattle.table.specs.Table.{marked, freshAt, freshRow, tableVerdict, entriesIn}
+use Rattle.table.specs.Table.{marked, freshAt, freshRow, tableVerdict}
 use Rattle.table.specs.Work.{Moved}
 use Rattle.table.proofs.Whole.{table-room}
 use Rattle.change.specs.Change.{isParent, breaks, changeVerdict, setLink, mended, changed}
-use Rattle.change.specs.Work.{flip, names}
+use Rattle.change.specs.Work.{flip}
 use Rattle.change.proofs.Staying.{Allowed, allowed, still-sound}
 use Rattle.change.proofs.Mending.{onWay, madeAt, mended-rows}
 use Rattle.change.proofs.Flipping.{turned-twice}
@@ -140,13 +141,13 @@ module _ (links parents : List ℕ) (search : Search) (entries : List ℕ) (c : 
             (both-taken _ _ (if-passes _ NoRoom 0 (le-ltb (entriesIn entries) (length parents) room)) none-left)
           where
             room : length parents ≤ entriesIn entries
-            room = omega (arith, table-room (netOf links parents search) entries Taken (sym table-taken) refl)
+            room = table-room (netOf links parents search) entries Taken (sym table-taken) refl
 
         made-same : (x : ℕ) → marked marks x ≡ onWay links parents search c a x → freshAt (netOf (setLink links c) parents search) marks entries x ≡ madeAt links parents search c a entries x
         unfolding freshAt madeAt
         made-same x w = rw w
 
-        fresh-rows : freshRow (netOf (setLink links c) parents search) marks entries ≡ rowsTo (freshAt (netOf (setLink links c) parents search) marks entries) (length parents) ++ drop (length parents * entryWidth) entries
+        fresh-rows : freshRow (netOf (setLink links c) parents search) marks entries ≡ rowsTo (freshAt (netOf (setLink links c) parents search) marks entries) (length parents) ++ pastEntries (length parents) entries
         unfolding freshRow netOf
         fresh-rows = rw fresh-taken
 
@@ -156,8 +157,8 @@ module _ (links parents : List ℕ) (search : Search) (entries : List ℕ) (c : 
             same : (x : ℕ) → x < length parents → freshAt (netOf (setLink links c) parents search) marks entries x ≡ madeAt links parents search c a entries x
             same x m = made-same x (marked-is x m)
 
-            fresh-is : freshRow (netOf (setLink links c) parents search) marks entries ≡ rowsTo (madeAt links parents search c a entries) (length parents) ++ drop (length parents * entryWidth) entries
-            fresh-is = fresh-rows ∙ ap (λ (r : List ℕ). r ++ drop (length parents * entryWidth) entries) (rows-cong _ _ (length parents) same)
+            fresh-is : freshRow (netOf (setLink links c) parents search) marks entries ≡ rowsTo (madeAt links parents search c a entries) (length parents) ++ pastEntries (length parents) entries
+            fresh-is = fresh-rows ∙ ap (λ (r : List ℕ). r ++ pastEntries (length parents) entries) (rows-cong _ _ (length parents) same)
 
 -- the change, one after the other
 module _ (links parents : List ℕ) (search : Search) (entries : List ℕ) (c : Change) (v : Verdict) (is : v ≡ changeVerdict (netOf links parents search) entries c) where

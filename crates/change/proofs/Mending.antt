@@ -3,28 +3,28 @@
 use mathlib.Core.Path.{_≡_, refl, sym, subst, ap, ap₂, _∙_}
 use mathlib.Core.Bool.{Bool, true, false, cond, not, _&&_}
 use mathlib.Core.List.{List, _++_}
-use Prim.Native.Nat.{ℕ, _*_, _<_, _≤_}
+use Prim.Native.Nat.{ℕ, _<_, _≤_}
 use native.Mathlib.Omega.{arith}
 use lib.Dec.{eqb}
-use lib.ListN.{length, drop, length-drop}
-use lib.Seq.{drop-at, length-take-le}
+use lib.ListN.{length}
 use borrow.Author.Tests.{eqb-true}
 use Rattle.edition.specs.declared.Change.{Change}
 use Rattle.edition.specs.declared.Search.{Search}
-use Rattle.edition.specs.Limits.{entryWidth}
 use Rattle.edition.specs.Entries.{entryRow}
 use Rattle.rows.specs.Count.{rowsTo}
 use Rattle.rows.specs.Lists.{differ}
 use Rattle.rows.proofs.Tests.{and-none}
-use Rattle.rows.proofs.Records.{rows-cong, rows-length, rows-at-in}
+use Rattle.rows.proofs.Records.{rows-cong}
+use Rattle.entries.specs.Row.{entriesIn, standing, pastEntries}
+use Rattle.entries.proofs.Keeping.{Sized, entry-sized, standing-sized, rows-past, rows-standing}
 use Rattle.network.specs.declared.Link.{Link}
 use Rattle.network.specs.Network.{Net, linksIn, linkIn, netOf, inService}
 use Rattle.tree.specs.Tree.{Tree, treeOf, under, onPath}
 use Rattle.sound.proofs.Holding.{link-path}
 use Rattle.swap.specs.Swap.{crosses}
 use Rattle.swap.specs.Entry.{entry}
-use Rattle.table.specs.Table.{table, standing}
-use Rattle.change.specs.Change.{setLink, mendedAt, mended}
+use Rattle.table.specs.Table.{table}
+use Rattle.change.specs.Change.{changedLink, setLink, mendedAt, mended}
 use Rattle.change.proofs.Alike.{Alike, same, neither, SameFor, entry-same}
 use Rattle.change.proofs.Setting.{count-same, link-other, link-set}
 use Rattle.change.proofs.Staying.{Allowed, kept-tree}
@@ -33,20 +33,6 @@ use Rattle.change.proofs.Staying.{Allowed, kept-tree}
 no-cross : (t : Tree) (x k : ℕ) (l : Link) → differ (under t x (l .first)) (under t x (l .second)) ≡ false → crosses t x k l ≡ false
 unfolding crosses
 no-cross t x k l h = rw h (and-none (inService l && not (eqb k (t .link x))))
-
--- the record of x in a row of records whose width is known for the first n alone
-record-at : (n : ℕ) (f : ℕ → List ℕ) (more : List ℕ) → ((x : ℕ) → x < n → length (f x) ≡ entryWidth) → (x : ℕ) → x < n → standing (rowsTo f n ++ more) x ≡ f x
-unfolding standing
-record-at n f more sized x l = rows-at-in f entryWidth n sized more x l
-
-row-size : (g : Net) (x : ℕ) → length (entryRow (entry g x)) ≡ entryWidth
-unfolding entryRow
-row-size g x = refl
-
-standing-size : (n : ℕ) (entries : List ℕ) → n * entryWidth ≤ length entries → (x : ℕ) → x < n → length (standing entries x) ≡ entryWidth
-unfolding standing
-standing-size n entries room x l =
-    length-take-le entryWidth (drop (x * entryWidth) entries) (omega (arith, length-drop (x * entryWidth) entries, l, room))
 
 module _ (links parents : List ℕ) (search : Search) (c : Change) (a : Allowed (netOf links parents search) c) where
   -- does the tree link of x lie on the path between the ends of the changed link?
@@ -78,7 +64,7 @@ module _ (links parents : List ℕ) (search : Search) (c : Change) (a : Allowed 
       new =
           subst (λ (t : Tree). crosses t x (c .link) (linkIn (setLink links c) (c .link)) ≡ false) (sym (kept-tree links parents search c a))
           (subst (λ (l : Link). crosses (treeOf (netOf links parents search)) x (c .link) l ≡ false) (sym (link-set links c there))
-          (no-cross _ x (c .link) (record { first = linkIn links (c .link) .first; second = linkIn links (c .link) .second; length = c .length; mark = c .mark }) (off-differs x h)))
+          (no-cross _ x (c .link) (changedLink (linkIn links (c .link)) c) (off-differs x h)))
 
       go : (k : ℕ) (b : Bool) → eqb k (c .link) ≡ b → Alike x (netOf links parents search) (netOf (setLink links c) parents search) k
       go k false q = same (link-other links c k q)
@@ -94,23 +80,23 @@ module _ (links parents : List ℕ) (search : Search) (c : Change) (a : Allowed 
   unfoldable pub madeAt : List ℕ → ℕ → List ℕ
   madeAt entries x = cond (onWay x) (entryRow (entry (netOf (setLink links c) parents search) x)) (standing entries x)
 
-  pub mended-rows : (entries : List ℕ) → mended (netOf links parents search) (netOf (setLink links c) parents search) (c .link) entries ≡ rowsTo (madeAt entries) (length parents) ++ drop (length parents * entryWidth) entries
+  pub mended-rows : (entries : List ℕ) → mended (netOf links parents search) (netOf (setLink links c) parents search) (c .link) entries ≡ rowsTo (madeAt entries) (length parents) ++ pastEntries (length parents) entries
   unfolding mended mendedAt netOf madeAt onWay
   mended-rows entries = refl
 
-  module _ (entries : List ℕ) (room : length parents * entryWidth ≤ length entries) where
-    pub made-size : (x : ℕ) → x < length parents → length (madeAt entries x) ≡ entryWidth
+  module _ (entries : List ℕ) (room : length parents ≤ entriesIn entries) where
+    pub made-size : (x : ℕ) → x < length parents → Sized (madeAt entries x)
     unfolding madeAt
     made-size x l = go (onWay x) refl
       where
-        go : (b : Bool) → onWay x ≡ b → length (madeAt entries x) ≡ entryWidth
-        go true h = rw h (row-size (netOf (setLink links c) parents search) x)
-        go false h = rw h (standing-size (length parents) entries room x l)
+        go : (b : Bool) → onWay x ≡ b → Sized (madeAt entries x)
+        go true h = rw h (entry-sized (entry (netOf (setLink links c) parents search) x))
+        go false h = rw h (standing-sized entries x (omega (arith, l, room)))
 
     pub mended-at : (x : ℕ) → x < length parents → standing (mended (netOf links parents search) (netOf (setLink links c) parents search) (c .link) entries) x ≡ madeAt entries x
     mended-at x l =
         ap (λ (r : List ℕ). standing r x) (mended-rows entries)
-        ∙ record-at (length parents) (madeAt entries) (drop (length parents * entryWidth) entries) made-size x l
+        ∙ rows-standing (madeAt entries) (length parents) made-size (pastEntries (length parents) entries) x l
 
     -- each entry on the path is the fresh one, also where the lent table was wrong
     pub on-path-fresh : (x : ℕ) → x < length parents → onWay x ≡ true → standing (mended (netOf links parents search) (netOf (setLink links c) parents search) (c .link) entries) x ≡ entryRow (entry (netOf (setLink links c) parents search) x)
@@ -129,14 +115,12 @@ module _ (links parents : List ℕ) (search : Search) (c : Change) (a : Allowed 
       mended-rows (table (netOf links parents search) ++ rest)
       ∙ ap₂ (λ (r s : List ℕ). r ++ s) (rows-cong _ _ (length parents) (λ x l. go x l (onWay x) refl)) past
     where
-      past : drop (length parents * entryWidth) (table (netOf links parents search) ++ rest) ≡ rest
-      past =
-          drop-at (table (netOf links parents search)) rest (length parents * entryWidth)
-          (rows-length (λ x. entryRow (entry (netOf links parents search) x)) entryWidth (row-size (netOf links parents search)) (length parents))
+      past : pastEntries (length parents) (table (netOf links parents search) ++ rest) ≡ rest
+      past = rows-past (λ x. entryRow (entry (netOf links parents search) x)) (length parents) (λ x l. entry-sized (entry (netOf links parents search) x)) rest
 
       go : (x : ℕ) → x < length parents → (b : Bool) → onWay x ≡ b → madeAt (table (netOf links parents search) ++ rest) x ≡ entryRow (entry (netOf (setLink links c) parents search) x)
       go x l true h = rw h
       go x l false h =
           rw h
-          (record-at (length parents) (λ y. entryRow (entry (netOf links parents search) y)) rest (λ y m. row-size (netOf links parents search) y) x l
+          (rows-standing (λ y. entryRow (entry (netOf links parents search) y)) (length parents) (λ y m. entry-sized (entry (netOf links parents search) y)) rest x l
           ∙ ap entryRow (sym (entry-kept x h)))

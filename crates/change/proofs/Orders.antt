@@ -3,46 +3,30 @@
 use mathlib.Core.Path.{_≡_, refl, sym, subst, ap, ap₂, _∙_}
 use mathlib.Core.Bool.{Bool, true, false, cond, _||_}
 use mathlib.Core.List.{List, _++_}
-use Prim.Native.Nat.{ℕ, _+_, _*_, _<_, _≤_}
-use native.Mathlib.Omega.{arith}
-use lib.ListN.{length, drop, set}
-use lib.Seq.{drop-at}
+use Prim.Native.Nat.{ℕ, _<_, _≤_}
+use lib.ListN.{length}
 use borrow.Author.Tests.{ne-eqb}
 use Rattle.edition.specs.declared.Change.{Change}
 use Rattle.edition.specs.declared.Search.{Search}
 use Rattle.edition.specs.declared.Verdict.the-variants.{Taken}
-use Rattle.edition.specs.Limits.{linkWidth, entryWidth}
 use Rattle.edition.specs.Entries.{entryRow}
 use Rattle.rows.specs.Count.{rowsTo}
 use Rattle.rows.proofs.Tests.{or-swap}
-use Rattle.rows.proofs.Listed.{set-swap}
-use Rattle.rows.proofs.Records.{rows-cong, rows-length-in}
+use Rattle.rows.proofs.Records.{rows-cong}
+use Rattle.entries.specs.Row.{entriesIn, standing, pastEntries}
+use Rattle.entries.proofs.Keeping.{rows-past}
 use Rattle.network.specs.declared.Link.{Link}
 use Rattle.network.specs.Network.{linkIn, netOf}
 use Rattle.tree.specs.Tree.{Tree, treeOf, onPath}
 use Rattle.swap.specs.Entry.{entry}
-use Rattle.table.specs.Table.{standing}
 use Rattle.table.proofs.Whole.{table-room}
 use Rattle.rows.proofs.Refusing.{head-taken}
 use Rattle.change.specs.Change.{changeVerdict, setLink, mended, Lent, changed}
-use Rattle.change.proofs.Setting.{link-other}
+use Rattle.change.proofs.Setting.{link-other, sets-agree}
 use Rattle.change.proofs.Staying.{Allowed, allowed, kept-tree}
 use Rattle.change.proofs.Mending.{onWay, madeAt, made-size, mended-rows, mended-at, entry-kept}
 
--- the rows of links are the same
-links-agree : (links : List ℕ) (c d : Change) → (c .link ≡ d .link → ⊥) → setLink (setLink links c) d ≡ setLink (setLink links d) c
-unfolding setLink
-links-agree links c d n =
-    let one = c .link * linkWidth + 2 in
-    let two = c .link * linkWidth + 3 in
-    let three = d .link * linkWidth + 2 in
-    let four = d .link * linkWidth + 3 in
-    ap (λ (r : List ℕ). set r four (d .mark)) (set-swap (set links one (c .length)) two three (c .mark) (d .length) (λ e. n (omega (arith, e))))
-    ∙ (ap (λ (r : List ℕ). set (set r two (c .mark)) four (d .mark)) (set-swap links one three (c .length) (d .length) (λ e. n (omega (arith, e))))
-    ∙ (set-swap (set (set links three (d .length)) one (c .length)) two four (c .mark) (d .mark) (λ e. n (omega (arith, e)))
-    ∙ ap (λ (r : List ℕ). set r two (c .mark)) (set-swap (set links three (d .length)) one four (c .length) (d .mark) (λ e. n (omega (arith, e))))))
-
-module _ (links parents : List ℕ) (search : Search) (entries : List ℕ) (room : length parents * entryWidth ≤ length entries) where
+module _ (links parents : List ℕ) (search : Search) (entries : List ℕ) (room : length parents ≤ entriesIn entries) where
   -- does the tree link of x lie on the path between the ends of the link that is changed?
   unfoldable wayOf : Change → ℕ → Bool
   wayOf c x = onPath (treeOf (netOf links parents search)) (linkIn links (c .link) .first) (linkIn links (c .link) .second) x
@@ -76,14 +60,13 @@ module _ (links parents : List ℕ) (search : Search) (entries : List ℕ) (room
             rw (other-way x, e, middle-at x l, f) (ap entryRow (sym (entry-kept (setLink links c) parents search d b x (other-way x ∙ e))))
         go false false e f = rw (other-way x, e, middle-at x l, f)
 
-    past : drop (length parents * entryWidth) middle ≡ drop (length parents * entryWidth) entries
+    past : pastEntries (length parents) middle ≡ pastEntries (length parents) entries
     unfolding middle
     past =
-        ap (drop (length parents * entryWidth)) (mended-rows links parents search c a entries)
-        ∙ drop-at (rowsTo (madeAt links parents search c a entries) (length parents)) (drop (length parents * entryWidth) entries) (length parents * entryWidth)
-        (rows-length-in (madeAt links parents search c a entries) entryWidth (length parents) (made-size links parents search c a entries room))
+        ap (pastEntries (length parents)) (mended-rows links parents search c a entries)
+        ∙ rows-past (madeAt links parents search c a entries) (length parents) (made-size links parents search c a entries room) (pastEntries (length parents) entries)
 
-    both-rows : mended (netOf (setLink links c) parents search) (netOf (setLink (setLink links c) d) parents search) (d .link) middle ≡ rowsTo (bothAt c d (setLink (setLink links c) d)) (length parents) ++ drop (length parents * entryWidth) entries
+    both-rows : mended (netOf (setLink links c) parents search) (netOf (setLink (setLink links c) d) parents search) (d .link) middle ≡ rowsTo (bothAt c d (setLink (setLink links c) d)) (length parents) ++ pastEntries (length parents) entries
     both-rows =
         mended-rows (setLink links c) parents search d b middle
         ∙ ap₂ (λ (r s : List ℕ). r ++ s) (rows-cong _ _ (length parents) both-is) past
@@ -93,10 +76,10 @@ module _ (links parents : List ℕ) (search : Search) (entries : List ℕ) (room
   unfolding middle bothAt
   tables-agree c d n ac bd ad bc =
       both-rows c d n ac bd
-      ∙ (ap (λ (r : List ℕ). r ++ drop (length parents * entryWidth) entries)
+      ∙ (ap (λ (r : List ℕ). r ++ pastEntries (length parents) entries)
       (rows-cong _ _ (length parents)
       (λ x l.
-      ap₂ (λ (k : List ℕ) (w : Bool). cond w (entryRow (entry (netOf k parents search) x)) (standing entries x)) (links-agree links c d n) (or-swap (wayOf c x) (wayOf d x))))
+      ap₂ (λ (k : List ℕ) (w : Bool). cond w (entryRow (entry (netOf k parents search) x)) (standing entries x)) (sets-agree links c d n) (or-swap (wayOf c x) (wayOf d x))))
       ∙ sym (both-rows d c (λ e. n (sym e)) ad bc))
 
 -- a change that is taken, in the words of the contract
@@ -115,7 +98,7 @@ module _ (parents : List ℕ) (search : Search) where
   unfolding changed after Takes
   changed-is c lent t = rw t
 
-  room-is : (c : Change) (lent : Lent) → Takes c lent → length parents * entryWidth ≤ length (lent .entries)
+  room-is : (c : Change) (lent : Lent) → Takes c lent → length parents ≤ entriesIn (lent .entries)
   unfolding Takes changeVerdict netOf
   room-is c lent t = table-room (netOf (lent .links) parents search) (lent .entries) Taken (sym (head-taken _ _ t)) refl
 
@@ -123,12 +106,12 @@ module _ (parents : List ℕ) (search : Search) where
   unfolding Takes
   may c lent t = allowed (netOf (lent .links) parents search) (lent .entries) c t
 
-  both-same : (c d : Change) (lent : Lent) → (c .link ≡ d .link → ⊥) → length parents * entryWidth ≤ length (lent .entries) → Allowed (netOf (lent .links) parents search) c → Allowed (netOf (after c lent .links) parents search) d → Allowed (netOf (lent .links) parents search) d → Allowed (netOf (after d lent .links) parents search) c → after d (after c lent) ≡ after c (after d lent)
+  both-same : (c d : Change) (lent : Lent) → (c .link ≡ d .link → ⊥) → length parents ≤ entriesIn (lent .entries) → Allowed (netOf (lent .links) parents search) c → Allowed (netOf (after c lent .links) parents search) d → Allowed (netOf (lent .links) parents search) d → Allowed (netOf (after d lent .links) parents search) c → after d (after c lent) ≡ after c (after d lent)
   unfolding after
   both-same c d lent n room ac bd ad bc =
       λ i.
       record {
-        links = links-agree (lent .links) c d n i;
+        links = sets-agree (lent .links) c d n i;
         entries = tables-agree (lent .links) parents search (lent .entries) room c d n ac bd ad bc i;
       }
 

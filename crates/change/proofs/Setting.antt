@@ -1,72 +1,32 @@
 -- A row of links with one record set: the other records, the ends of that one and the tree are as they were. Assumes nothing.
-use mathlib.Core.Path.{_≡_, ap, _∙_}
+use mathlib.Core.Path.{_≡_, sym, ap, _∙_}
 use mathlib.Core.Bool.{false, cond}
 use mathlib.Core.List.{List}
-use Prim.Native.Nat.{ℕ, _+_, _*_, _/_, _<_}
-use native.Mathlib.Omega.{arith}
+use Prim.Native.Nat.{ℕ, _<_}
 use lib.Dec.{eqb}
-use lib.ListN.{length, getD, set, length-set}
-use lib.Seq.{getD-set-other, getD-set-same}
-use borrow.Author.Tests.{eqb-false, lt-ltb}
+use lib.ListN.{length, getD}
+use borrow.Author.Tests.{eqb-false}
 use Rattle.edition.specs.declared.Change.{Change}
 use Rattle.edition.specs.declared.Search.{Search}
-use Rattle.edition.specs.Limits.{linkWidth, noLink}
-use Rattle.rows.specs.Count.{onlyIf}
-use Rattle.network.specs.Network.{linksIn, fieldIn, linkIn, netOf, otherEnd}
+use Rattle.edition.specs.Limits.{noLink}
+use Rattle.network.specs.declared.Link.{Link}
+use Rattle.network.specs.Network.{linksIn, linkIn, putLink, netOf, otherEnd}
+use Rattle.network.proofs.Keeping as keeping
 use Rattle.tree.specs.Tree.{treeOf}
-use Rattle.change.specs.Change.{setLink}
+use Rattle.change.specs.Change.{changedLink, setLink}
 
 module _ (links : List ℕ) (c : Change) where
-  size-same : length (setLink links c) ≡ length links
-  unfolding setLink
-  size-same =
-      length-set (set links (c .link * linkWidth + 2) (c .length)) (c .link * linkWidth + 3) (c .mark)
-      ∙ length-set links (c .link * linkWidth + 2) (c .length)
-
   pub count-same : linksIn (setLink links c) ≡ linksIn links
-  count-same = ap (λ (k : ℕ). k / linkWidth) size-same
-
-  number-other : (j : ℕ) → (j ≡ c .link * linkWidth + 2 → ⊥) → (j ≡ c .link * linkWidth + 3 → ⊥) → getD (setLink links c) j 0 ≡ getD links j 0
   unfolding setLink
-  number-other j p q =
-      getD-set-other (set links (c .link * linkWidth + 2) (c .length)) (c .link * linkWidth + 3) j (c .mark) 0 q
-      ∙ getD-set-other links (c .link * linkWidth + 2) j (c .length) 0 p
-
-  field-kept : (k i : ℕ) → (k * linkWidth + i ≡ c .link * linkWidth + 2 → ⊥) → (k * linkWidth + i ≡ c .link * linkWidth + 3 → ⊥) → fieldIn (setLink links c) k i ≡ fieldIn links k i
-  unfolding fieldIn
-  field-kept k i p q = rw (count-same, number-other (k * linkWidth + i) p q)
+  count-same = keeping.put-count links (c .link) (changedLink (linkIn links (c .link)) c)
 
   pub link-other : (k : ℕ) → eqb k (c .link) ≡ false → linkIn (setLink links c) k ≡ linkIn links k
-  unfolding linkIn
-  link-other k h =
-      let d = eqb-false k (c .link) h in
-      λ i.
-      record {
-        first = field-kept k 0 (λ e. d (omega (arith, e))) (λ e. d (omega (arith, e))) i;
-        second = field-kept k 1 (λ e. d (omega (arith, e))) (λ e. d (omega (arith, e))) i;
-        length = field-kept k 2 (λ e. d (omega (arith, e))) (λ e. d (omega (arith, e))) i;
-        mark = field-kept k 3 (λ e. d (omega (arith, e))) (λ e. d (omega (arith, e))) i;
-      }
+  unfolding setLink
+  link-other k h = keeping.put-kept links (c .link) (changedLink (linkIn links (c .link)) c) k (eqb-false k (c .link) h)
 
-  module _ (there : c .link < linksIn links) where
-    field-set : (i v : ℕ) → getD (setLink links c) (c .link * linkWidth + i) 0 ≡ v → fieldIn (setLink links c) (c .link) i ≡ v
-    unfolding fieldIn onlyIf
-    field-set i v e = rw (count-same, lt-ltb (c .link) (linksIn links) there) e
-
-    pub link-set : linkIn (setLink links c) (c .link) ≡ record { first = linkIn links (c .link) .first; second = linkIn links (c .link) .second; length = c .length; mark = c .mark }
-    unfolding linkIn setLink
-    link-set =
-        let mid = set links (c .link * linkWidth + 2) (c .length) in
-        λ i.
-        record {
-          first = field-kept (c .link) 0 (λ e. omega (arith, e)) (λ e. omega (arith, e)) i;
-          second = field-kept (c .link) 1 (λ e. omega (arith, e)) (λ e. omega (arith, e)) i;
-          length = field-set 2 (c .length)
-              (getD-set-other mid (c .link * linkWidth + 3) (c .link * linkWidth + 2) (c .mark) 0 (λ e. omega (arith, e))
-              ∙ getD-set-same links (c .link * linkWidth + 2) (c .length) 0 (omega (arith, there))) i;
-          mark = field-set 3 (c .mark)
-              (getD-set-same mid (c .link * linkWidth + 3) (c .mark) 0 (omega (arith, there, length-set links (c .link * linkWidth + 2) (c .length)))) i;
-        }
+  pub link-set : c .link < linksIn links → linkIn (setLink links c) (c .link) ≡ changedLink (linkIn links (c .link)) c
+  unfolding setLink
+  link-set there = keeping.put-back links (c .link) (changedLink (linkIn links (c .link)) c) there
 
   module _ (parents : List ℕ) (search : Search) (spare : (u : ℕ) → eqb (netOf links parents search .parent u) (c .link) ≡ false) where
     -- a link that is no node's parent link leaves the tree alone
@@ -82,3 +42,17 @@ module _ (links : List ℕ) (c : Change) where
           up = λ u. let p = otherEnd (kept u i) u in cond (eqb u (search .root)) u p;
           rise = λ u. let w = kept u i .length in cond (eqb u (search .root)) 0 w;
         }
+
+-- of two changes of different links the second finds its record as it was
+second-finds : (links : List ℕ) (c d : Change) → (d .link ≡ c .link → ⊥) → setLink (setLink links c) d ≡ putLink (putLink links (c .link) (changedLink (linkIn links (c .link)) c)) (d .link) (changedLink (linkIn links (d .link)) d)
+unfolding setLink
+second-finds links c d n =
+    let first = putLink links (c .link) (changedLink (linkIn links (c .link)) c) in
+    ap (λ (l : Link). putLink first (d .link) (changedLink l d)) (keeping.put-kept links (c .link) (changedLink (linkIn links (c .link)) c) (d .link) n)
+
+-- so the two may be stored in either order
+pub sets-agree : (links : List ℕ) (c d : Change) → (c .link ≡ d .link → ⊥) → setLink (setLink links c) d ≡ setLink (setLink links d) c
+sets-agree links c d n =
+    second-finds links c d (λ e. n (sym e))
+    ∙ (keeping.put-swap links (c .link) (d .link) (changedLink (linkIn links (c .link)) c) (changedLink (linkIn links (d .link)) d) n
+    ∙ sym (second-finds links d c n))

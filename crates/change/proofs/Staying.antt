@@ -23,7 +23,7 @@ use Rattle.sound.specs.Sound.{short, notShort}
 use Rattle.sound.proofs.Sounds.{Sound, sound}
 use Rattle.sound.proofs.Holding.{links-few}
 use Rattle.table.proofs.Whole.{table-sound}
-use Rattle.change.specs.Change.{isParent, breaks, changeVerdict, setLink}
+use Rattle.change.specs.Change.{isParent, breaks, changeVerdict, changedLink, setLink}
 use Rattle.change.proofs.Setting.{count-same, link-other, link-set, tree-same}
 
 -- what 1 to 13 leave
@@ -76,7 +76,7 @@ module _ (links parents : List ℕ) (search : Search) (c : Change) (a : Allowed 
       go true q = subst (λ j. P (linkIn (setLink links c) j)) (sym (eqb-true k (c .link) q)) p
       go false q = subst P (sym (link-other links c k q)) (f k (omega (arith, l, count-same links c)))
 
-  set-is : (P : Link → Type 0) → P (record { first = linkIn links (c .link) .first; second = linkIn links (c .link) .second; length = c .length; mark = c .mark }) → P (linkIn (setLink links c) (c .link))
+  set-is : (P : Link → Type 0) → P (changedLink (linkIn links (c .link)) c) → P (linkIn (setLink links c) (c .link))
   set-is P p = subst P (sym (link-set links c there)) p
 
   ends-still : (k : ℕ) → k < linksIn (setLink links c) → badEnds (length parents) (linkIn (setLink links c) k) ≡ false

@@ -2,25 +2,25 @@
 -- Assumes nothing.
 use mathlib.Core.Bool.{Bool, cond, not, _&&_}
 use mathlib.Core.List.{List, [], _∷_, _++_}
-use Prim.Native.Nat.{ℕ, _+_, _*_}
+use Prim.Native.Nat.{ℕ}
 use lib.Dec.{eqb, leb}
-use lib.ListN.{drop, set}
 use Rattle.edition.specs.declared.Search.{Search}
 use Rattle.edition.specs.declared.Change.{Change}
 use Rattle.edition.specs.declared.Verdict.{Verdict}
 use Rattle.edition.specs.declared.Why.the-variants.{LinkMissing, BadMark, TreeLink, BreaksShort}
-use Rattle.edition.specs.Limits.{linkWidth, entryWidth, served}
+use Rattle.edition.specs.Limits.{served}
 use Rattle.edition.specs.Refusals.{made}
 use Rattle.edition.specs.Entries.{entryRow}
 use Rattle.rows.specs.Count.{someTo, rowsTo}
 use Rattle.rows.specs.First.{refuseIf, firstly}
 use Rattle.network.specs.declared.Link.{Link}
-use Rattle.network.specs.Network.{Net, netOf}
+use Rattle.network.specs.Network.{Net, netOf, linkIn, putLink}
 use Rattle.network.specs.Records.{badMark}
 use Rattle.tree.specs.Tree.{treeOf, onPath}
 use Rattle.sound.specs.Sound.{short}
 use Rattle.swap.specs.Entry.{entry}
-use Rattle.table.specs.Table.{standing, tableVerdict}
+use Rattle.entries.specs.Row.{standing, pastEntries}
+use Rattle.table.specs.Table.{tableVerdict}
 
 -- Is the link some node's parent link?
 unfoldable pub isParent : Net → ℕ → Bool
@@ -42,9 +42,13 @@ changeVerdict g entries c =
     refuseIf (isParent g (c .link)) TreeLink (c .link) ∷
     refuseIf (breaks g c) BreaksShort (c .link) ∷ [])
 
--- The row of links with the length and the service mark stored in that link's record.
+-- A link with the length and the service mark that a change names, and all else as it was.
+abbrev pub changedLink : Link → Change → Link
+changedLink l c = record { first = l .first; second = l .second; length = c .length; mark = c .mark }
+
+-- The row of links with that link's record so changed.
 unfoldable pub setLink : List ℕ → Change → List ℕ
-setLink links c = set (set links (c .link * linkWidth + 2) (c .length)) (c .link * linkWidth + 3) (c .mark)
+setLink links c = putLink links (c .link) (changedLink (linkIn links (c .link)) c)
 
 -- The record of x after a change between the ends a and b: worked out in the new network where the tree link of x lies on the
 -- tree path between the ends, and as it stands elsewhere.
@@ -56,7 +60,7 @@ mendedAt old new l entries x =
 -- The row of entries so mended, and the room past them as it stands.
 unfoldable pub mended : Net → Net → ℕ → List ℕ → List ℕ
 mended old new e entries =
-    rowsTo (mendedAt old new (old .link e) entries) (old .nodes) ++ drop (old .nodes * entryWidth) entries
+    rowsTo (mendedAt old new (old .link e) entries) (old .nodes) ++ pastEntries (old .nodes) entries
 
 -- What is lent to a change, and what it leaves: the row of links and the row of entries.
 pub record Lent : Type 0 where

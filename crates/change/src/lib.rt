@@ -8,27 +8,14 @@ ghost use Rattle.tree.specs.Tree.{treeOf, under};
 ghost use Rattle.sound.specs.Sound.{netVerdict};
 ghost use Rattle.table.specs.Work.{Moved};
 ghost use Rattle.change.specs.Change.{breaks, changeVerdict, setLink, mended, changed};
-ghost use Rattle.change.specs.Work.{flip, flippedAt, names};
+ghost use Rattle.change.specs.Work.{flip, flippedAt};
 use edition::Change;
 use edition::Edition;
 use edition::Memory;
 use edition::Search;
 use edition::Verdict;
 use edition::Why;
-
-// Whether link e is some node's parent link.
-fn is_parent(parents: &[u16], e: usize) -> bool
-    ensures { λ r. ⌜ r ≡ names (now (parents .entry)) e ⌝ }
-{
-    let mut u = 0;
-    while u < parents.len() {
-        if network::parent_of(parents, u) as usize == e {
-            return true;
-        }
-        u += 1;
-    }
-    false
-}
+use network::Link;
 
 // Whether the change sets a link in service whose new length breaks shortness.
 fn breaks_short(links: &[u16], parents: &[u16], search: Search, change: Change) -> bool
@@ -69,7 +56,7 @@ pub fn check_change(
     let Verdict::Taken = marked else {
         return marked;
     };
-    let spare = rows::refuse_if(is_parent(parents, e), Why::TreeLink, e);
+    let spare = rows::refuse_if(network::is_parent(parents, e), Why::TreeLink, e);
     let Verdict::Taken = spare else {
         return spare;
     };
@@ -108,14 +95,21 @@ fn flip_up(links: &[u16], parents: &[u16], search: Search, marks: &mut [u64], u:
     flip_at(marks, c);
 }
 
-// Stores a length and a service mark in the record of link e.
+// Stores a length and a service mark in the record of link e, whose other numbers stay.
 fn set_link(links: &mut [u16], e: usize, length: u16, mark: u16)
-    requires { ⌜ e < linksIn (now links) ⌝ }
     ensures { λ _. ⌜ now (links .exit) ≡ setLink (now (links .entry)) (record { link = e; mark = mark; length = length }) ⌝ }
 {
-    let at = e * Memory::LINK;
-    links[at + 2] = length;
-    links[at + 3] = mark;
+    let l = network::link_at(links, e);
+    network::put_link(
+        links,
+        e,
+        Link {
+            first: l.first,
+            second: l.second,
+            length,
+            mark,
+        },
+    );
 }
 
 // Makes a change that is taken: the record, and afresh the entries of the nodes whose tree link lies on the tree path between the

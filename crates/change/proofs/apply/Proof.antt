@@ -1,6 +1,6 @@
 -- `change::apply` meets its contract. Assumes nothing.
 use native.Mathlib.Omega.{arith}
-use Rattle.change.proofs.Applying.{root-node, apply-sound, apply-there, marks-room, first-node, second-node, marks-still, apply-is}
+use Rattle.change.proofs.Applying.{root-node, apply-sound, marks-room, first-node, second-node, marks-still, apply-is}
 use borrow.Author.Needs.{needs}
 use Rattle.change.proofs.apply.Statement.{statement}
 use Rattle.change.proofs.apply.Tie as tie
@@ -33,7 +33,7 @@ cast-set-link : tie.Need-cast-set-link
 cast-set-link c = search needs
 
 set-link-requires : tie.Need-set-link-requires
-set-link-requires c κs = apply-there _ _ _ _ _ (c .before .before .before .before .before .before .before .before .before .before .before .before .before .before .before .before .before .before .pre)
+set-link-requires c κs = search needs
 
 slice-aggregate-refresh : tie.Need-slice-aggregate-refresh
 slice-aggregate-refresh c = search needs
