@@ -5,20 +5,21 @@ use mathlib.Core.List.{List, [], _∷_, _++_}
 use Prim.Native.Nat.{ℕ, _+_, _*_, _<_, _≤_}
 use native.Mathlib.Omega.{arith}
 use lib.Dec.{eqb, ltb}
-use lib.ListN.{length, getD, take, drop}
-use lib.Seq.{getD-drop}
+use lib.ListN.{length, drop}
 use borrow.Author.Tests.{ltb-true, le-ltb, lt-ltb}
 use Rattle.edition.specs.declared.Refusal.{Refusal}
 use Rattle.edition.specs.declared.Verdict.{Verdict}
 use Rattle.edition.specs.declared.Verdict.the-variants.{Taken, Refused}
 use Rattle.edition.specs.declared.Why.the-variants.{NoRoom}
-use Rattle.edition.specs.Limits.{noNode, entryWidth, mapWords, wordBits}
-use Rattle.edition.specs.Entries.{entryRow, noneState, bridgeState}
+use Rattle.edition.specs.Limits.{noNode, mapWords, wordBits}
+use Rattle.edition.specs.declared.Entry.{Entry}
+use Rattle.edition.specs.Entries.{noneState, bridgeState}
+use Rattle.entries.specs.Row.{entryAt, pastEntries}
 use Rattle.rows.specs.Count.{onlyIf, rowWith}
 use Rattle.rows.specs.First.{refuseIf, firstly, foundOr}
 use Rattle.rows.proofs.Best.{first-cong}
 use Rattle.rows.proofs.Counting.{sum-cong}
-use Rattle.rows.proofs.Records.{rows-at, rows-cong}
+use Rattle.rows.proofs.Records.{rows-cong}
 use Rattle.rows.proofs.Refusing.{head-refuses}
 use Rattle.network.specs.Network.{Net}
 use Rattle.sound.specs.Sound.{netVerdict}
@@ -28,7 +29,7 @@ use Rattle.swap.specs.Entry.{entry, state}
 use Rattle.swap.proofs.Stating.{entry-state}
 use Rattle.table.specs.Table.{table, tableVerdict, tableRow}
 use Rattle.table.proofs.Single.{bareRow, bare-verdict}
-use Rattle.table.proofs.Whole.{table-sound}
+use Rattle.table.proofs.Whole.{table-sound, table-entry}
 use Rattle.map.specs.declared.MapAnswer.{MapAnswer}
 use Rattle.map.specs.declared.MapAnswer.the-variants.{Is, Not}
 use Rattle.map.specs.Map.{unprotected, word, mapOf, ones, lowest, toldOf, mapVerdict, mapAnswer, mapRow}
@@ -36,20 +37,9 @@ use Rattle.map.specs.Work.{openBy, packed, wordBy, wordsBy, onesIn, lowe
 use Rattle.map.proofs.Packing.{packed-cong}
 use Rattle.map.proofs.Wording.{ones-are, lowest-is}
 
-first-taken : (l : List ℕ) → getD (take entryWidth l) 0 0 ≡ getD l 0 0
-first-taken [] = refl
-first-taken (x ∷ rest) = refl
-
--- the state of x stands first in its record
-state-at : (g : Net) (more : List ℕ) (x : ℕ) → x < g .nodes → getD (table g ++ more) (x * entryWidth) 0 ≡ state g x
-unfolding table entryRow
-state-at g more x l =
-    let at : x * entryWidth ≡ x * entryWidth + 0 = omega arith in
-    ap (λ i. getD (table g ++ more) i 0) at
-    ∙ (sym (getD-drop (x * entryWidth) (table g ++ more) 0 0)
-    ∙ (sym (first-taken (drop (x * entryWidth) (table g ++ more)))
-    ∙ (ap (λ (r : List ℕ). getD r 0 0) (rows-at (λ y. entryRow (entry g y)) entryWidth (λ y. refl) (g .nodes) more x l)
-    ∙ entry-state g x)))
+-- the state of x in a row that begins with the table
+state-at : (g : Net) (more : List ℕ) (x : ℕ) → x < g .nodes → entryAt (table g ++ more) x .state ≡ state g x
+state-at g more x l = ap (λ (e : Entry). e .state) (table-entry g more x l) ∙ entry-state g x
 
 module _ (g : Net) where
   net-refused : (r : Refusal) → tableVerdict g bareRow ≡ Refused r → netVerdict g ≡ Refused r
@@ -77,7 +67,7 @@ module _ (g : Net) where
       few : g .nodes ≤ mapWords * wordBits
       few = nodes-few g (sound g ok)
 
-      row-is : row ≡ table g ++ drop (g .nodes * entryWidth) bareRow
+      row-is : row ≡ table g ++ pastEntries (g .nodes) bareRow
       unfolding tableRow
       row-is = e ∙ rw (← q, t)
 
@@ -88,7 +78,7 @@ module _ (g : Net) where
           go : (b : Bool) → ltb x (g .nodes) ≡ b → openBy row (g .nodes) x ≡ unprotected g x
           go true l =
               ap (λ s. ltb x (g .nodes) && (eqb s noneState || eqb s bridgeState))
-              (ap (λ (r : List ℕ). getD r (x * entryWidth) 0) row-is ∙ state-at g (drop (g .nodes * entryWidth) bareRow) x (ltb-true x (g .nodes) l))
+              (ap (λ (r : List ℕ). entryAt r x .state) row-is ∙ state-at g (pastEntries (g .nodes) bareRow) x (ltb-true x (g .nodes) l))
           go false l = rw l
 
       past : (x : ℕ) → g .nodes ≤ x → openBy row (g .nodes) x ≡ false

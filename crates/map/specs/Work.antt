@@ -8,8 +8,9 @@ use lib.ListN.{length, getD}
 use Rattle.edition.specs.declared.Found.{Found}
 use Rattle.edition.specs.declared.Found.the-variants.{Nothing, At}
 use Rattle.edition.specs.declared.Why.the-variants.{NoRoom}
-use Rattle.edition.specs.Limits.{noNode, entryWidth, mapWords, wordBits}
+use Rattle.edition.specs.Limits.{noNode, mapWords, wordBits}
 use Rattle.edition.specs.Entries.{noneState, bridgeState}
+use Rattle.entries.specs.Row.{entryAt}
 use Rattle.rows.specs.Count.{sumTo, onlyIf, rowWith}
 use Rattle.rows.specs.First.{firstTo}
 use Rattle.map.specs.declared.MapAnswer.{MapAnswer}
@@ -17,7 +18,7 @@ use Rattle.map.specs.declared.MapAnswer.the-variants.{Is, Not}
 
 -- is x, of n nodes, in state 2 or 3 by a row of entries?
 unfoldable pub openBy : List ℕ → ℕ → ℕ → Bool
-openBy row n x = let s = getD row (x * entryWidth) 0 in ltb x n && (eqb s noneState || eqb s bridgeState)
+openBy row n x = let s = entryAt row x .state in ltb x n && (eqb s noneState || eqb s bridgeState)
 
 -- k tests as the bits of a number, the first the lowest
 unfoldable pub packed : (ℕ → Bool) → ℕ → ℕ

@@ -2,7 +2,7 @@
 ghost use mathlib.Core.Path.{_≡_};
 ghost use Prim.Native.Nat.{_+_, _*_, _<_, _≤_};
 ghost use lib.ListN.{length};
-ghost use Rattle.edition.specs.Limits.{mapWords, wordBits};
+ghost use Rattle.edition.specs.Limits.{mapWords};
 ghost use Rattle.rows.specs.Count.{onlyIf};
 ghost use Rattle.rows.specs.First.{firstTo};
 ghost use Rattle.network.specs.Network.{netOf};
@@ -30,22 +30,20 @@ pub enum MapAnswer {
 
 // Whether x, of n nodes, is in state 2 or 3 by a row of entries.
 fn is_open(entries: &[u64], n: usize, x: usize) -> bool
-    requires { ⌜ x < mapWords * wordBits ⌝ }
     ensures { λ r. ⌜ r ≡ openBy (now (entries .entry)) n x ⌝ }
 {
     if n <= x {
         return false;
     }
-    let state = rows::wide_at(entries, x * Memory::ENTRY);
-    if state == Edition::NONE {
+    let e = entries::entry_at(entries, x);
+    if e.state == Edition::NONE {
         return true;
     }
-    state == Edition::BRIDGE
+    e.state == Edition::BRIDGE
 }
 
 // The bit of x.
 fn bit_of(entries: &[u64], n: usize, x: usize) -> u64
-    requires { ⌜ x < mapWords * wordBits ⌝ }
     ensures { λ r. ⌜ r ≡ onlyIf (openBy (now (entries .entry)) n x) 1 ⌝ }
 {
     if is_open(entries, n, x) { 1 } else { 0 }
@@ -109,7 +107,7 @@ fn lowest_of(words: &[u64]) -> u16
     ensures { λ r. ⌜ r ≡ lowestIn (now (words .entry)) ⌝ }
 {
     match first_word(words) {
-        Found::Nothing => Edition::NO_NODE,
+        Found::Nothing => Edition::no_node(),
         Found::At(i) => {
             (i * Memory::BITS) as u16 + u64::trailing_zeros(rows::wide_at(words, i)) as u16
         }
@@ -143,7 +141,7 @@ pub fn unprotected_map(
 ) -> MapAnswer
     ensures { λ r. ⌜ (r ≡ mapAnswer (netOf (now (links .entry)) (now (parents .entry)) search) (now (words .entry))) × (now (words .exit) ≡ mapRow (netOf (now (links .entry)) (now (parents .entry)) search) (now (words .entry))) ⌝ }
 {
-    let mut entries = [0u64; Memory::NODES * Memory::ENTRY];
+    let mut entries = [0u64; Memory::ENTRY_ROW];
     let said = table::table(links, parents, search, &mut entries);
     match said {
         Verdict::Taken => map_of(&entries, parents.len(), words),

@@ -13,7 +13,8 @@ use Rattle.edition.specs.declared.Verdict.the-variants.{Taken, Refused}
 use Rattle.edition.specs.declared.Why.the-variants.{NoRoom}
 use Rattle.edition.specs.Limits.{nodeLimit}
 use Rattle.edition.specs.Entries.{entryRow}
-use Rattle.entries.specs.Row.{entriesIn, pastEntries}
+use Rattle.entries.specs.Row.{entriesIn, entryAt, pastEntries}
+use Rattle.entries.proofs.Keeping.{entry-sized, entry-known, rows-standing}
 use Rattle.rows.specs.First.{refuseIf}
 use Rattle.rows.proofs.Refusing.{head-taken, rest-taken, if-taken}
 use Rattle.rows.proofs.Records.{rows-cong}
@@ -75,3 +76,10 @@ module _ (g : Net) (row : List ℕ) where
           (rows-cong (freshAt g (replicate nodeLimit 1) row) (λ x. entryRow (entry g x)) (g .nodes)
           (λ x l. rw (one-marked x (omega (arith, l, nodes-few g (sound g (table-sound Taken (sym q) refl))))))))
       go (Refused r) q = rw q
+
+-- the entries of a row that begins with the table
+pub table-entry : (g : Net) (more : List ℕ) (x : ℕ) → x < g .nodes → entryAt (table g ++ more) x ≡ entry g x
+unfolding table
+table-entry g more x l =
+    entry-known (table g ++ more) x (entry g x)
+    (rows-standing (λ y. entryRow (entry g y)) (g .nodes) (λ y m. entry-sized (entry g y)) more x l)

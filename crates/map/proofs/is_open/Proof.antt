@@ -9,19 +9,16 @@ returns : tie.Need-returns
 unfolding openBy
 returns c = rw (le-ltb _ _ (c .if1 .taken))
 
-mul-wide-at : tie.Need-mul-wide-at
-mul-wide-at c = search needs
-
-wide-at-requires : tie.Need-wide-at-requires
-wide-at-requires c κs = search needs
+entry-at-requires : tie.Need-entry-at-requires
+entry-at-requires c κs = search needs
 
 returns-2 : tie.Need-returns-2
 unfolding openBy
-returns-2 c = rw (lt-ltb _ _ (c .before .before .if1 .left), ← c .before .wide-at .ensures, eq-eqb _ _ (c .if2 .taken))
+returns-2 c = rw (lt-ltb _ _ (c .before .before .before .if1 .left), ← c .before .before .entry-at .ensures, eq-eqb _ _ (c .if2 .taken))
 
 returns-3 : tie.Need-returns-3
 unfolding openBy
-returns-3 c = rw (lt-ltb _ _ (c .before .before .if1 .left), ← c .before .wide-at .ensures, ne-eqb _ _ (c .if2 .left))
+returns-3 c = rw (lt-ltb _ _ (c .before .before .before .before .if1 .left), ← c .before .before .before .entry-at .ensures, ne-eqb _ _ (c .before .if2 .left))
 
 pub is-open-spec : {M : Type 1} → statement M
-is-open-spec = tie.close (tie.spec returns mul-wide-at wide-at-requires returns-2 returns-3)
+is-open-spec = tie.close (tie.spec returns entry-at-requires returns-2 returns-3)

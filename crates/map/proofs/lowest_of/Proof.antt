@@ -13,6 +13,9 @@ first-word-requires c κs = search needs
 enum-told : tie.Need-enum-told
 enum-told c = search needs
 
+no-node-requires : tie.Need-no-node-requires
+no-node-requires c κs = search needs
+
 enum-known-i : tie.Need-enum-known-i
 enum-known-i c = search needs
 
@@ -33,7 +36,7 @@ add-result c = omega (arith, trailing-le 64 (c .wide-at .result), lowest-room _ 
 
 returns : tie.Need-returns
 unfolding lowestIn lowestAt
-returns c = rw (← c .before .before .first-word .ensures, c .enum-told .given .1)
+returns c = rw (← c .before .before .before .first-word .ensures, c .before .enum-told .given .1) (c .no-node .ensures)
 
 returns-2 : tie.Need-returns-2
 returns-2 c = lowest-found _ _ (c .before .before .before .before .first-word .ensures) _ (c .before .before .i .given .1) _ (c .wide-at .ensures)
@@ -44,6 +47,7 @@ lowest-of-spec =
     (tie.spec
     first-word-requires
     enum-told
+    no-node-requires
     enum-known-i
     mul-result
     cast-result
