@@ -6,61 +6,38 @@ use Prim.Native.Nat.{ℕ, _+_, _*_, _-_, _<_, _≤_}
 use native.Mathlib.Omega.{arith}
 use lib.Dec.{eqb}
 use lib.ListN.{length, getD, take, drop}
-use lib.Seq.{sets, sets-eq, length-sets, take-at, drop-at, getD-drop, length-take-le, getD-take}
+use lib.Seq.{sets, sets-eq, length-sets, take-at, drop-at, length-take-le}
 use borrow.Author.Tests.{eq-eqb}
 use Rattle.edition.specs.declared.Search.{Search}
-use Rattle.edition.specs.Limits.{entryWidth, noLink}
+use Rattle.edition.specs.Limits.{noLink}
 use Rattle.edition.specs.Stored.{blockBytes, frontBytes, headerKind, linksKind}
 use Rattle.block.specs.Block.{unheard, block, sealed}
 use Rattle.archive.specs.declared.Part.{Part}
 use Rattle.archive.specs.Parts.{blocksFor, blockCount, partAt}
-use Rattle.archive.specs.Work.{heldBytes, recordIn, laid, Held, Tabled}
+use Rattle.archive.specs.Work.{heldBytes, recordBy, laid, Held, Tabled}
 use Rattle.archive.specs.Writer.{recordOf, blockOf}
 use Rattle.block.specs.Bytes.{wordMost}
 use Rattle.archive.proofs.Parting.{Fit, held-room, part-fit, part-heard, Stands, part-stands}
 use Rattle.archive.proofs.Files.{few-nodes, few-links}
 use Rattle.archive.proofs.Laying.{record-size}
-use Rattle.edition.specs.Entries.{entryRow}
 use Rattle.rows.specs.Count.{rowsTo}
-use Rattle.rows.proofs.Records.{rows-at, rows-cong, rows-length}
-use Rattle.network.specs.Network.{Net, linksIn, netOf}
-use Rattle.swap.specs.Entry.{entry}
-use Rattle.table.specs.Table.{table}
-use Rattle.table.specs.Work.{entryAt}
+use Rattle.rows.proofs.Records.{rows-cong, rows-length}
+use Rattle.network.specs.Network.{linksIn, netOf}
+use Rattle.entries.specs.Row.{entryAt}
+use Rattle.table.proofs.Whole.{table-entry}
 use Rattle.record.specs.Record.{entryRecord}
 
--- the entry of x in a row that begins with the table
-module _ (g : Net) (more : List ℕ) (x : ℕ) (l : x < g .nodes) where
-  number-at : (i : ℕ) → i < entryWidth → getD (table g ++ more) (x * entryWidth + i) 0 ≡ getD (entryRow (entry g x)) i 0
-  unfolding table entryRow
-  number-at i m =
-      sym (getD-drop (x * entryWidth) (table g ++ more) i 0)
-      ∙ (sym (getD-take entryWidth (drop (x * entryWidth) (table g ++ more)) i 0 m)
-      ∙ ap (λ (r : List ℕ). getD r i 0) (rows-at (λ y. entryRow (entry g y)) entryWidth (λ y. refl) (g .nodes) more x l))
-
-  pub entry-read : entryAt (table g ++ more) x ≡ entry g x
-  unfolding entryAt entryRow
-  entry-read =
-      let zero-at : getD (table g ++ more) (x * entryWidth) 0 ≡ getD (table g ++ more) (x * entryWidth + 0) 0 = ap (λ i. getD (table g ++ more) i 0) (omega arith) in
-      λ i.
-      record {
-        state = (zero-at ∙ number-at 0 (omega arith)) i;
-        sum = record { link = number-at 1 (omega arith) i; cost = number-at 4 (omega arith) i };
-        incr = record { link = number-at 2 (omega arith) i; cost = number-at 5 (omega arith) i };
-        max = record { link = number-at 3 (omega arith) i; cost = number-at 6 (omega arith) i };
-      }
-
 -- a record by the rows is the network's
-record-is : (links parents : List ℕ) (search : Search) (entries : List ℕ) → Tabled (netOf links parents search) entries → (kind r : ℕ) → (eqb kind headerKind ≡ false → eqb kind linksKind ≡ false → r < length parents) → recordIn links parents search entries kind r ≡ recordOf (netOf links parents search) kind r
-unfolding recordIn recordOf netOf
+record-is : (links parents : List ℕ) (search : Search) (entries : List ℕ) → Tabled (netOf links parents search) entries → (kind r : ℕ) → (eqb kind headerKind ≡ false → eqb kind linksKind ≡ false → r < length parents) → recordBy links parents search entries kind r ≡ recordOf (netOf links parents search) kind r
+unfolding recordBy recordOf netOf
 record-is links parents search entries t kind r low = go (eqb kind headerKind) refl (eqb kind linksKind) refl
   where
-    go : (a : Bool) → eqb kind headerKind ≡ a → (b : Bool) → eqb kind linksKind ≡ b → recordIn links parents search entries kind r ≡ recordOf (netOf links parents search) kind r
+    go : (a : Bool) → eqb kind headerKind ≡ a → (b : Bool) → eqb kind linksKind ≡ b → recordBy links parents search entries kind r ≡ recordOf (netOf links parents search) kind r
     go true e b f = rw e
     go false e true f = rw (e, f)
     go false e false f =
         rw (e, f)
-        (ap (entryRecord (getD parents r noLink)) (ap (λ (row : List ℕ). entryAt row r) (t .is) ∙ entry-read (netOf links parents search) (t .more) r (low e f)))
+        (ap (entryRecord (getD parents r noLink)) (ap (λ (row : List ℕ). entryAt row r) (t .is) ∙ table-entry (netOf links parents search) (t .more) r (low e f)))
 
 -- the records of a laid block, and the block that is sealed
 laid-back : (size : ℕ) (records row : List ℕ) → length records ≡ size → frontBytes + size ≤ length row → take size (drop frontBytes (sets row frontBytes records)) ≡ records
@@ -102,14 +79,14 @@ module _ (links parents : List ℕ) (search : Search) (entries : List ℕ) (t : 
     pub part-held : (room : ℕ) → room ≡ blockBytes → Held part room
     part-held room e = record { low = stands .low; fits = omega (arith, held-room part fit, e) }
 
-    pub block-made : (before laidOut after : List ℕ) → length before ≡ blockBytes → laidOut ≡ laid (recordIn links parents search entries (part .kind)) part before → after ≡ sealed (part .kind) i (part .used) laidOut → after ≡ blockOf (netOf links parents search) i
+    pub block-made : (before laidOut after : List ℕ) → length before ≡ blockBytes → laidOut ≡ laid (recordBy links parents search entries (part .kind)) part before → after ≡ sealed (part .kind) i (part .used) laidOut → after ≡ blockOf (netOf links parents search) i
     block-made before laidOut after e q s =
         s
         ∙ (ap (sealed (part .kind) i (part .used)) q
         ∙ (sealed-is ∙ ap (λ (p : Part). block (p .kind) i (p .used) (rowsTo (λ r. recordOf (netOf links parents search) (p .kind) (p .from + r)) (p .used))) named ∙ block-is links parents search i))
       where
         records : List ℕ
-        records = rowsTo (λ r. recordIn links parents search entries (part .kind) (part .from + r)) (part .used)
+        records = rowsTo (λ r. recordBy links parents search entries (part .kind) (part .from + r)) (part .used)
 
         records-size : length records ≡ part .used * heldBytes (part .kind)
         records-size = rows-length _ (heldBytes (part .kind)) (λ r. record-size links parents search entries (part .kind) (part .from + r)) (part .used)
@@ -117,5 +94,5 @@ module _ (links parents : List ℕ) (search : Search) (entries : List ℕ) (t : 
         same : records ≡ rowsTo (λ r. recordOf (netOf links parents search) (part .kind) (part .from + r)) (part .used)
         same = rows-cong _ _ (part .used) (λ r l. record-is links parents search entries t (part .kind) (part .from + r) (λ a b. omega (arith, l, stands .nodes a b)))
 
-        sealed-is : sealed (part .kind) i (part .used) (laid (recordIn links parents search entries (part .kind)) part before) ≡ block (part .kind) i (part .used) (rowsTo (λ r. recordOf (netOf links parents search) (part .kind) (part .from + r)) (part .used))
-        sealed-is = seal-made i (recordIn links parents search entries (part .kind)) part before e heard fit records-size ∙ ap (block (part .kind) i (part .used)) same
+        sealed-is : sealed (part .kind) i (part .used) (laid (recordBy links parents search entries (part .kind)) part before) ≡ block (part .kind) i (part .used) (rowsTo (λ r. recordOf (netOf links parents search) (part .kind) (part .from + r)) (part .used))
+        sealed-is = seal-made i (recordBy links parents search entries (part .kind)) part before e heard fit records-size ∙ ap (block (part .kind) i (part .used)) same

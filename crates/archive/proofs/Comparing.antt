@@ -2,17 +2,16 @@
 use mathlib.Core.Path.{_≡_, sym, subst, ap, _∙_}
 use mathlib.Core.Bool.{true, false}
 use mathlib.Core.List.{List}
-use Prim.Native.Nat.{ℕ, _+_, _*_, _/_, _%_, _<_, _≤_}
+use Prim.Native.Nat.{ℕ, _+_, _*_, _<_, _≤_}
 use native.Mathlib.Nat.{not-suc-le-zero}
 use native.Mathlib.Numerals.{add-one}
 use native.Mathlib.Omega.{arith}
 use lib.ListN.{length, getD, take, drop, length-drop}
 use lib.Seq.{length-take-le, getD-take, getD-drop, ext-getD}
-use Rattle.edition.specs.Limits.{linkWidth}
 use Rattle.edition.specs.Stored.{blockBytes}
 use Rattle.block.specs.Bytes.{wordMost, numberIn}
 use Rattle.archive.specs.Parts.{linkPlace, entryPlace}
-use Rattle.archive.specs.Work.{linkNumber, parentNumber}
+use Rattle.archive.specs.Work.{parentNumber}
 use Rattle.rows.specs.Lists.{same}
 use Rattle.rows.proofs.Listed.{same-equal, equal-same}
 use Rattle.rows.proofs.Tests.{lastly, not-so}
@@ -50,11 +49,7 @@ module _ (file : List ℕ) (at : ℕ) (own : List ℕ) (room : at + length own �
         long : length (take (length own) (drop at file)) ≡ length own
         long = length-take-le (length own) (drop at file) (omega (arith, room, length-drop at file))
 
--- the numbers of the rows that a file holds, as they are read
-pub link-number : (file : List ℕ) (j place : ℕ) → place ≡ linkPlace (j / linkWidth) → (v : ℕ) → v ≡ numberIn file (place + 2 * (j % linkWidth)) 2 → v ≡ linkNumber file j
-unfolding linkNumber
-link-number file j place p v q = q ∙ ap (λ k. numberIn file (k + 2 * (j % linkWidth)) 2) p
-
+-- the parent link that a file holds, as it is read
 pub parent-number : (file : List ℕ) (m x place : ℕ) → place ≡ entryPlace m x → (v : ℕ) → v ≡ numberIn file place 2 → v ≡ parentNumber file m x
 unfolding parentNumber
 parent-number file m x place p v q = q ∙ ap (λ k. numberIn file k 2) p

@@ -11,12 +11,14 @@ use Rattle.edition.specs.declared.Refusal.{Refusal}
 use Rattle.edition.specs.declared.Verdict.{Verdict}
 use Rattle.edition.specs.declared.Verdict.the-variants.{Taken, Refused}
 use Rattle.edition.specs.declared.Why.the-variants.{BadLength, NoRoom, BadEntry}
+use Rattle.edition.specs.Limits.{memoryLimits}
+use Rattle.edition.proofs.Within.{edition-within}
 use Rattle.edition.specs.Stored.{storedNodes, storedLinks, editionLimits, blockBytes}
 use Rattle.rows.specs.First.{refuseIf, refuseAt, firstly, verdictTo}
 use Rattle.rows.proofs.Refusing.{head-taken, rest-taken, head-refuses, head-passes, only-one, if-taken}
 use Rattle.network.specs.Network.{netOf}
 use Rattle.network.specs.Records.{sizeVerdict}
-use Rattle.network.proofs.Sizes.{sized-nodes, sized-links}
+use Rattle.network.proofs.Sizes.{sized-nodes, sized-links, sizes-grow}
 use Rattle.sound.specs.Sound.{recordVerdict, netVerdict}
 use Rattle.block.specs.Bytes.{wordMost}
 use Rattle.archive.specs.declared.Header.{Header}
@@ -44,10 +46,12 @@ searched : (file : List ℕ) → sizeVerdict editionLimits (nodesRead file) (lin
 unfolding netRead netOf
 searched file t = t
 
-size-read : (file : List ℕ) → sizeVerdict editionLimits (nodesRead file) (linksRead file) (searchRead file) ≡ Taken → sizeVerdict editionLimits (netRead file .nodes) (netRead file .links) (netRead file .search) ≡ Taken
-size-read file t = rw (nodes-read file, links-read file) (searched file t)
+size-read : (file : List ℕ) → sizeVerdict editionLimits (nodesRead file) (linksRead file) (searchRead file) ≡ Taken → sizeVerdict memoryLimits (netRead file .nodes) (netRead file .links) (netRead file .search) ≡ Taken
+size-read file t =
+    sizes-grow editionLimits memoryLimits edition-within (netRead file .nodes) (netRead file .links) (netRead file .search)
+    (rw (nodes-read file, links-read file) (searched file t))
 
--- 1 to 4 are asked of the head already
+-- 1 to 4 are asked of the head already, at edition 1's limits, which are within memory's
 pub records-alone : (file : List ℕ) → headVerdict file ≡ Taken → netVerdict (netRead file) ≡ recordVerdict (netRead file)
 unfolding netVerdict
 records-alone file t = head-passes _ _ (size-read file (sizes-taken file t)) ∙ only-one _

@@ -2,7 +2,7 @@
 use mathlib.Core.Path.{_≡_, sym, subst, ap, ap₂, _∙_}
 use mathlib.Core.Bool.{Bool, not}
 use mathlib.Core.List.{List, _++_, append-nil}
-use Prim.Native.Nat.{ℕ, _+_, _*_}
+use Prim.Native.Nat.{ℕ, _+_}
 use native.Mathlib.Omega.{arith}
 use lib.ListN.{length, getD, take, drop, replicate, length-replicate, drop-of-length-le}
 use lib.Seq.{sets-eq}
@@ -14,7 +14,7 @@ use Rattle.edition.specs.declared.Verdict.{Verdict}
 use Rattle.edition.specs.declared.Verdict.the-variants.{Taken, Refused}
 use Rattle.edition.specs.declared.Why.the-variants.{NoRoom, BadEntry}
 use Rattle.rows.proofs.Refusing.{head-refuses, head-passes, only-one}
-use Rattle.edition.specs.Limits.{noLink, entryWidth}
+use Rattle.edition.specs.Limits.{noLink}
 use Rattle.edition.specs.Stored.{entryBytes}
 use Rattle.rows.specs.First.{firstTo, refuseIf, refuseAt, refusedAt}
 use Rattle.rows.specs.Lists.{same}
@@ -22,13 +22,13 @@ use Rattle.rows.proofs.Best.{first-cong}
 use Rattle.network.specs.Network.{linksIn, netOf}
 use Rattle.sound.specs.Sound.{netVerdict}
 use Rattle.table.specs.Table.{table, tableRow}
-use Rattle.table.specs.Work.{entryAt}
+use Rattle.entries.specs.Row.{entryAt, pastEntries}
+use Rattle.table.proofs.Whole.{table-entry}
 use Rattle.table.proofs.Single.{bareRow, bare-verdict}
 use Rattle.record.specs.Record.{entryRecord, recordPut}
 use Rattle.record.proofs.Putting.{entry-size}
 use Rattle.archive.specs.Parts.{entryPlace}
 use Rattle.archive.specs.Work.{badBy, badStored, Placed, contentVerdict}
-use Rattle.archive.proofs.Blocks.{entry-read}
 
 -- a record put into a row of its size is the row
 own-is : (u : ℕ) (e : Entry) (own : List ℕ) → own ≡ recordPut 0 entryBytes (entryRecord u e) (replicate entryBytes 0) → own ≡ entryRecord u e
@@ -58,7 +58,7 @@ placed-by file n m l q p = subst (λ k. Placed file k n) (sym q) p
 
 -- by the table of a sound network
 module _ (links parents : List ℕ) (search : Search) (ok : netVerdict (netOf links parents search) ≡ Taken) where
-  table-is : (entries : List ℕ) → entries ≡ tableRow (netOf links parents search) bareRow → entries ≡ table (netOf links parents search) ++ drop (netOf links parents search .nodes * entryWidth) bareRow
+  table-is : (entries : List ℕ) → entries ≡ tableRow (netOf links parents search) bareRow → entries ≡ table (netOf links parents search) ++ pastEntries (netOf links parents search .nodes) bareRow
   unfolding tableRow
   table-is entries q = q ∙ rw (bare-verdict (netOf links parents search) Taken ok)
 
@@ -69,22 +69,17 @@ module _ (links parents : List ℕ) (search : Search) (ok : netVerdict (netOf li
       ∙ first-cong _ _ (length parents)
       (λ x l.
       ap₂ (λ (k : ℕ) (own : Entry). not (same (take entryBytes (drop (entryPlace k x) file)) (entryRecord (getD parents x noLink) own))) c
-      (ap (λ (row : List ℕ). entryAt row x) (table-is entries q) ∙ entry-read (netOf links parents search) (drop (netOf links parents search .nodes * entryWidth) bareRow) x l))
+      (ap (λ (row : List ℕ). entryAt row x) (table-is entries q) ∙ table-entry (netOf links parents search) (pastEntries (netOf links parents search .nodes) bareRow) x l))
 
 -- the checks of the content in their order
-module _ (file links parents : List ℕ) (search : Search) (tight : Bool) (v : Verdict) (is : v ≡ netVerdict (netOf links parents search)) where
-  pub net-refuses : (r : Refusal) → v ≡ Refused r → v ≡ contentVerdict file (netOf links parents search) tight
+module _ (file links parents : List ℕ) (search : Search) (tight : Bool) (ok : netVerdict (netOf links parents search) ≡ Taken) (w : Verdict) (wis : w ≡ refuseIf tight NoRoom 0) where
+  pub room-refuses : (r : Refusal) → w ≡ Refused r → w ≡ contentVerdict file (netOf links parents search) tight
   unfolding contentVerdict
-  net-refuses r t = t ∙ sym (head-refuses _ _ r (sym is ∙ t))
+  room-refuses r t = t ∙ sym (head-passes _ _ ok ∙ head-refuses _ _ r (sym wis ∙ t))
 
-  module _ (ok : v ≡ Taken) (w : Verdict) (wis : w ≡ refuseIf tight NoRoom 0) where
-    pub room-refuses : (r : Refusal) → w ≡ Refused r → w ≡ contentVerdict file (netOf links parents search) tight
-    unfolding contentVerdict
-    room-refuses r t = t ∙ sym (head-passes _ _ (sym is ∙ ok) ∙ head-refuses _ _ r (sym wis ∙ t))
-
-    pub entries-decide : w ≡ Taken → (f : Found) → f ≡ firstTo (badStored file (netOf links parents search)) (length parents) → (x : Verdict) → x ≡ refusedAt BadEntry f → x ≡ contentVerdict file (netOf links parents search) tight
-    unfolding contentVerdict refuseAt netOf
-    entries-decide t f e x q =
-        q
-        ∙ (ap (refusedAt BadEntry) e
-        ∙ sym (head-passes _ _ (sym is ∙ ok) ∙ (head-passes _ _ (sym wis ∙ t) ∙ only-one _)))
+  pub entries-decide : w ≡ Taken → (f : Found) → f ≡ firstTo (badStored file (netOf links parents search)) (length parents) → (x : Verdict) → x ≡ refusedAt BadEntry f → x ≡ contentVerdict file (netOf links parents search) tight
+  unfolding contentVerdict refuseAt netOf
+  entries-decide t f e x q =
+      q
+      ∙ (ap (refusedAt BadEntry) e
+      ∙ sym (head-passes _ _ ok ∙ (head-passes _ _ (sym wis ∙ t) ∙ only-one _)))

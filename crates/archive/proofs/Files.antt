@@ -1,5 +1,5 @@
 -- The file of a sound network: its size, and what the writer answers. Assumes nothing.
-use mathlib.Core.Path.{_≡_, refl, sym, subst, ap, _∙_}
+use mathlib.Core.Path.{_≡_, refl, sym, subst, ap, ap₂, _∙_}
 use mathlib.Core.List.{List, _++_}
 use Prim.Native.Nat.{ℕ, _+_, _*_, _-_, _<_, _≤_}
 use native.Mathlib.Omega.{arith}
@@ -11,7 +11,11 @@ use Rattle.edition.specs.declared.Verdict.the-variants.{Taken, Refused}
 use Rattle.edition.specs.Stored.{blockBytes}
 use Rattle.rows.specs.Count.{rowsTo}
 use Rattle.network.specs.Network.{linksIn, netOf}
-use Rattle.sound.specs.Sound.{netVerdict}
+use Rattle.sound.specs.declared.Sizes.{Sizes}
+use Rattle.sound.specs.declared.Checked.{Checked}
+use Rattle.sound.specs.declared.Checked.the-variants.{Sound}
+use Rattle.sound.specs.Sound.{netVerdict, checked}
+use Rattle.sound.proofs.Handing.{sound-told, handed-then}
 use Rattle.sound.proofs.Sounds.{sound}
 use Rattle.sound.proofs.Holding.{nodes-few, links-few}
 use Rattle.block.specs.Bytes.{wordMost}
@@ -22,9 +26,10 @@ use Rattle.archive.specs.Writer.{blockOf, fileOf, fileLength, writeVerdi
 use Rattle.archive.specs.declared.WriteAnswer.the-variants.{Is, Not}
 use Rattle.edition.specs.declared.Refusal.{Refusal}
 use Rattle.edition.specs.declared.Why.the-variants.{NoRoom}
-use Rattle.edition.specs.Limits.{nodeLimit, linkLimit, entryWidth}
+use Rattle.edition.specs.Limits.{nodeLimit, linkLimit}
+use Rattle.entries.specs.Row.{pastEntries}
 use Rattle.rows.specs.First.{refuseIf}
-use Rattle.rows.proofs.Refusing.{head-taken, rest-taken, head-refuses, head-passes, if-taken, only-one}
+use Rattle.rows.proofs.Refusing.{head-taken, rest-taken, if-taken}
 use Rattle.table.specs.Table.{tableRow}
 use Rattle.table.proofs.Single.{bareRow, bare-verdict}
 use borrow.Author.Tests.{ltb-false}
@@ -76,20 +81,22 @@ file-is links parents search before after q = q
 
 -- the writer's verdict and answer
 module _ (links parents : List ℕ) (search : Search) (file : List ℕ) where
-  pub numbers-small : (v : Verdict) → v ≡ netVerdict (netOf links parents search) → v ≡ Taken → (length parents ≤ wordMost) × (linksIn links ≤ wordMost)
-  numbers-small v q t =
-      (nodes-small links parents search (sym q ∙ t), links-small links parents search (sym q ∙ t) (linksIn links) refl)
+  module _ (s : Checked) (z : Sizes) (e : s ≡ checked (netOf links parents search)) (t : s ≡ Sound z) where
+    told : (netVerdict (netOf links parents search) ≡ Taken) × (z .nodes ≡ length parents) × (z .links ≡ linksIn links)
+    unfolding netOf
+    told = sound-told (netOf links parents search) s z e t
 
-  pub network-refuses : (v : Verdict) → v ≡ netVerdict (netOf links parents search) → (r : Refusal) → v ≡ Refused r → v ≡ writeVerdict (netOf links parents search) file
-  unfolding writeVerdict
-  network-refuses v q r t = t ∙ sym (head-refuses _ _ r (sym q ∙ t))
+    pub sizes-small : (z .nodes ≤ wordMost) × (z .links ≤ wordMost)
+    sizes-small = (omega (arith, told .1, nodes-small links parents search (told .0)), links-small links parents search (told .0) (z .links) (told .2))
 
-  pub room-decides : (v : Verdict) → v ≡ netVerdict (netOf links parents search) → v ≡ Taken → (m : ℕ) → m ≡ linksIn links → (k : ℕ) → k ≡ blockCount (length parents) m * blockBytes → (w : Verdict) → w ≡ refuseIf (ltb (length file) k) NoRoom 0 → w ≡ writeVerdict (netOf links parents search) file
-  unfolding writeVerdict fileLength netOf
-  room-decides v q t m c k e w p =
-      p
-      ∙ (ap (λ j. refuseIf (ltb (length file) j) NoRoom 0) (e ∙ ap (λ j. blockCount (length parents) j * blockBytes) c)
-      ∙ sym (head-passes _ _ (sym q ∙ t) ∙ only-one _))
+    -- 10, behind the check of the network
+    pub room-judged : (k : ℕ) → k ≡ blockCount (z .nodes) (z .links) * blockBytes → (w : Verdict) → w ≡ refuseIf (ltb (length file) k) NoRoom 0 → w ≡ writeVerdict (netOf links parents search) file
+    unfolding writeVerdict fileLength netOf
+    room-judged k q w p =
+        let size : k ≡ blockCount (length parents) (linksIn links) * blockBytes = q ∙ ap₂ (λ (a b : ℕ). blockCount a b * blockBytes) (told .1) (told .2) in
+        p
+        ∙ (ap (λ (j : ℕ). refuseIf (ltb (length file) j) NoRoom 0) size
+        ∙ handed-then (netOf links parents search) s e z t (refuseIf (ltb (length file) (blockCount (length parents) (linksIn links) * blockBytes)) NoRoom 0))
 
   module _ (t : writeVerdict (netOf links parents search) file ≡ Taken) where
     net-taken : netVerdict (netOf links parents search) ≡ Taken
@@ -101,14 +108,14 @@ module _ (links parents : List ℕ) (search : Search) (file : List ℕ) where
     write-room = ltb-false (length file) (fileLength (netOf links parents search)) (if-taken _ NoRoom 0 (head-taken _ _ (rest-taken _ _ t)))
 
     pub write-numbers : (length parents ≤ wordMost) × (linksIn links ≤ wordMost)
-    write-numbers = numbers-small Taken (sym net-taken) refl
+    write-numbers = (nodes-small links parents search net-taken, links-small links parents search net-taken (linksIn links) refl)
 
     pub write-tabled : (entries : List ℕ) → entries ≡ tableRow (netOf links parents search) bareRow → Tabled (netOf links parents search) entries
     unfolding tableRow
     write-tabled entries q =
         record {
           ok = net-taken;
-          more = drop (netOf links parents search .nodes * entryWidth) bareRow;
+          more = pastEntries (netOf links parents search .nodes) bareRow;
           is = q ∙ rw (bare-verdict (netOf links parents search) Taken net-taken);
         }
 

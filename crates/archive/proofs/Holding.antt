@@ -1,23 +1,27 @@
 -- The rows that a file holds are those that are read from it. Assumes nothing.
 use mathlib.Core.Path.{_≡_, refl, sym, subst, ap, ap₂, _∙_}
 use mathlib.Core.Bool.{Bool}
-use mathlib.Core.List.{List, [], _∷_, _++_, append-assoc}
-use Prim.Native.Nat.{ℕ, zero, suc, _+_, _*_, _/_, _%_, _<_, _≤_}
+use mathlib.Core.List.{List, [], _∷_, _++_}
+use Prim.Native.Nat.{ℕ, _+_, _*_, _<_, _≤_}
 use native.Mathlib.Omega.{arith}
-use lib.ListN.{length, take, drop}
+use lib.ListN.{length, take, drop, replicate, length-replicate}
 use lib.Seq.{take-at}
 use Rattle.edition.specs.declared.Verdict.{Verdict}
-use Rattle.edition.specs.Limits.{linkWidth}
+use Rattle.edition.specs.Limits.{nodeLimit, linkWidth, linkRoom}
+use Rattle.edition.proofs.Within.{edition-within}
 use Rattle.edition.specs.Stored.{storedNodes, storedLinks, editionLimits, blockBytes, entryBytes}
 use Rattle.rows.specs.Count.{rowsTo, rowWith}
 use Rattle.rows.proofs.Records.{rows-length}
-use Rattle.network.specs.Network.{linksIn, netOf}
+use Rattle.rows.specs.Records.{firstRecords, pastRecords}
+use Rattle.network.specs.declared.Link.{Link}
+use Rattle.network.specs.Network.{linksIn, linkRow, putLink, pastLinks, netOf}
+use Rattle.network.proofs.Keeping.{rows-first, put-next}
 use Rattle.network.proofs.Sizes.{sized-nodes, sized-links}
 use Rattle.block.specs.Bytes.{numberIn}
 use Rattle.archive.specs.declared.Header.{Header}
 use Rattle.archive.specs.Parts.{blocksFor, blockCount, linkPlace, entryPlace}
-use Rattle.archive.specs.Reader.{nodesRead, linksRead, searchRead, headRead, linkRow, parentRow, netRead}
-use Rattle.archive.specs.Work.{linkNumber, parentNumber, Placed, Blocked, contentVerdict}
+use Rattle.archive.specs.Reader.{nodesRead, linksRead, searchRead, headRead, storedLink, linksHeld, parentsHeld, netRead}
+use Rattle.archive.specs.Work.{linksFrom, parentNumber, Placed, Blocked, contentVerdict}
 use Rattle.archive.proofs.Reading.{nodes-read, links-read}
 
 -- a row that was filled begins with what it was filled with
@@ -26,36 +30,11 @@ unfolding rowWith
 front-of f k before row q =
     ap (take k) q ∙ take-at (rowsTo (λ u. f u ∷ []) k) (drop k before) k (omega (arith, rows-length (λ u. f u ∷ []) 1 (λ x. refl) k))
 
-four-end : (l : List ℕ) (a b c d : ℕ) → l ++ (a ∷ []) ++ (b ∷ []) ++ (c ∷ []) ++ (d ∷ []) ≡ l ++ (a ∷ b ∷ c ∷ d ∷ [])
-four-end l a b c d =
-    ap (λ (r : List ℕ). r ++ (c ∷ []) ++ (d ∷ [])) (append-assoc l (a ∷ []) (b ∷ []))
-    ∙ (ap (λ (r : List ℕ). r ++ (d ∷ [])) (append-assoc l (a ∷ b ∷ []) (c ∷ [])) ∙ append-assoc l (a ∷ b ∷ c ∷ []) (d ∷ []))
-
-number-of : (file : List ℕ) (m i j : ℕ) → j / linkWidth ≡ m → j % linkWidth ≡ i → linkNumber file j ≡ numberIn file (linkPlace m + 2 * i) 2
-unfolding linkNumber
-number-of file m i j p q = ap₂ (λ (a b : ℕ). numberIn file (linkPlace a + 2 * b) 2) p q
-
--- the numbers of the links, record by record
-link-numbers : (file : List ℕ) (m : ℕ) → rowsTo (λ j. linkNumber file j ∷ []) (m * linkWidth) ≡ rowsTo (λ e. rowsTo (λ i. numberIn file (linkPlace e + 2 * i) 2 ∷ []) linkWidth) m
-unfolding rowsTo
-link-numbers file zero = refl
-link-numbers file (suc m) =
-    let k = m * linkWidth in
-    let next : suc m * linkWidth ≡ suc (suc (suc (suc k))) = omega arith in
-    ap (rowsTo (λ j. linkNumber file j ∷ [])) next
-    ∙ (four-end (rowsTo (λ j. linkNumber file j ∷ []) k) (linkNumber file k) (linkNumber file (suc k)) (linkNumber file (suc (suc k))) (linkNumber file (suc (suc (suc k))))
-    ∙ (λ t.
-    link-numbers file m t ++
-    (number-of file m 0 k (omega arith) (omega arith) t ∷
-    number-of file m 1 (suc k) (omega arith) (omega arith) t ∷
-    number-of file m 2 (suc (suc k)) (omega arith) (omega arith) t ∷
-    number-of file m 3 (suc (suc (suc k))) (omega arith) (omega arith) t ∷ [])))
-
-links-of : (file : List ℕ) → linksIn (linkRow file) ≡ linksRead file
+links-of : (file : List ℕ) → linksIn (linksHeld file) ≡ linksRead file
 unfolding netRead netOf
 links-of file = links-read file
 
-nodes-of : (file : List ℕ) → length (parentRow file) ≡ nodesRead file
+nodes-of : (file : List ℕ) → length (parentsHeld file) ≡ nodesRead file
 unfolding netRead netOf
 nodes-of file = nodes-read file
 
@@ -87,48 +66,96 @@ module _ (file : List ℕ) (head : Header) (b : Blocked file head) where
   pub few-links : head .links ≤ storedLinks
   few-links = omega (arith, links-is, sized-links editionLimits _ _ _ (b .sized))
 
-  -- a row that was filled, as the definitions say it
-  pub links-filled : (before row : List ℕ) → row ≡ rowWith (linkNumber file) (head .links * linkWidth) before → row ≡ linkRow file ++ drop (linksRead file * linkWidth) before
-  unfolding rowWith linkRow
-  links-filled before row q =
-      q
-      ∙ (ap (λ (r : List ℕ). r ++ drop (head .links * linkWidth) before) (link-numbers file (head .links))
-      ∙ ap (λ (k : ℕ). rowsTo (λ e. rowsTo (λ i. numberIn file (linkPlace e + 2 * i) 2 ∷ []) linkWidth) k ++ drop (k * linkWidth) before) links-is)
+  -- what edition 1 holds, rows of memory's longest hold
+  pub links-fit : head .links ≤ linksIn (replicate {A = ℕ} linkRoom 0)
+  links-fit = omega (arith, few-links, edition-within .links, length-replicate {A = ℕ} linkRoom 0)
 
-  pub parents-filled : (before row : List ℕ) → row ≡ rowWith (parentNumber file (head .links)) (head .nodes) before → row ≡ parentRow file ++ drop (nodesRead file) before
-  unfolding rowWith parentRow parentNumber
+  pub parents-fit : head .nodes ≤ length (replicate {A = ℕ} nodeLimit 0)
+  parents-fit = omega (arith, few-nodes, edition-within .nodes, length-replicate {A = ℕ} nodeLimit 0)
+
+  -- a row that was filled, as the definitions say it
+  pub links-filled : (before row : List ℕ) → row ≡ linksFrom file (head .links) before → row ≡ linksHeld file ++ pastLinks (linksRead file) before
+  unfolding linksFrom linksHeld
+  links-filled before row q = q ∙ ap (λ (k : ℕ). linksFrom file k before) links-is
+
+  pub parents-filled : (before row : List ℕ) → row ≡ rowWith (parentNumber file (head .links)) (head .nodes) before → row ≡ parentsHeld file ++ drop (nodesRead file) before
+  unfolding rowWith parentsHeld parentNumber
   parents-filled before row q =
       q
       ∙ (ap (λ (k : ℕ). rowsTo (λ x. numberIn file (entryPlace k x) 2 ∷ []) (head .nodes) ++ drop (head .nodes) before) links-is
       ∙ ap (λ (k : ℕ). rowsTo (λ x. numberIn file (entryPlace (linksRead file) x) 2 ∷ []) k ++ drop k before) nodes-is)
 
-  module _ (zeros row : List ℕ) (q : row ≡ rowWith (linkNumber file) (head .links * linkWidth) zeros) (zeros′ row′ : List ℕ) (q′ : row′ ≡ rowWith (parentNumber file (head .links)) (head .nodes) zeros′) where
-    links-are : take (head .links * linkWidth) row ≡ linkRow file
-    unfolding linkRow
-    links-are = front-of (linkNumber file) (head .links * linkWidth) zeros row q ∙ (link-numbers file (head .links) ∙ ap (rowsTo (λ e. rowsTo (λ i. numberIn file (linkPlace e + 2 * i) 2 ∷ []) linkWidth)) links-is)
+  module _ (zeros row : List ℕ) (q : row ≡ linksFrom file (head .links) zeros) (zeros′ row′ : List ℕ) (q′ : row′ ≡ rowWith (parentNumber file (head .links)) (head .nodes) zeros′) where
+    links-are : firstRecords linkWidth (head .links) row ≡ linksHeld file
+    unfolding linksFrom linksHeld
+    links-are =
+        ap (firstRecords linkWidth (head .links)) q
+        ∙ (rows-first (storedLink file) (head .links) (pastLinks (head .links) zeros)
+        ∙ ap (rowsTo (λ e. linkRow (storedLink file e))) links-is)
 
-    parents-are : take (head .nodes) row′ ≡ parentRow file
-    unfolding parentRow parentNumber
+    parents-are : take (head .nodes) row′ ≡ parentsHeld file
+    unfolding parentsHeld parentNumber
     parents-are =
         front-of (parentNumber file (head .links)) (head .nodes) zeros′ row′ q′
         ∙ (ap (λ (k : ℕ). rowsTo (λ x. numberIn file (entryPlace k x) 2 ∷ []) (head .nodes)) links-is
         ∙ ap (rowsTo (λ x. numberIn file (entryPlace (linksRead file) x) 2 ∷ [])) nodes-is)
 
-    -- in the words of the code, whose parts are so many numbers from the first on
-    module _ (k : ℕ) (e : k ≡ head .links * linkWidth) (k′ : ℕ) (e′ : k′ ≡ head .nodes) where
-      part-is : take k row ≡ linkRow file
-      part-is = ap (λ j. take j row) e ∙ links-are
+    -- in the words of the code, whose parts are the first records
+    module _ (part : List ℕ) (e : part ≡ firstRecords linkWidth (head .links) row) (part′ : List ℕ) (e′ : part′ ≡ take (head .nodes) row′) where
+      part-is : part ≡ linksHeld file
+      part-is = e ∙ links-are
 
-      part-is′ : take k′ row′ ≡ parentRow file
-      part-is′ = ap (λ j. take j row′) e′ ∙ parents-are
+      part-is′ : part′ ≡ parentsHeld file
+      part-is′ = e′ ∙ parents-are
 
-      pub network-is : netOf (take k row) (take k′ row′) (head .search) ≡ netRead file
+      pub network-is : netOf part part′ (head .search) ≡ netRead file
       unfolding netRead
       network-is = λ t. netOf (part-is t) (part-is′ t) (search-is t)
 
-      pub content-is : (tight : Bool) (v : Verdict) → v ≡ contentVerdict file (netOf (take k row) (take k′ row′) (head .search)) tight → v ≡ contentVerdict file (netRead file) tight
+      pub content-is : (tight : Bool) (v : Verdict) → v ≡ contentVerdict file (netOf part part′ (head .search)) tight → v ≡ contentVerdict file (netRead file) tight
       unfolding netRead
       content-is tight v q = q ∙ (λ t. contentVerdict file (netOf (part-is t) (part-is′ t) (search-is t)) tight)
 
-      pub entries-placed : Placed file (linksIn (take k row)) (length (take k′ row′))
-      entries-placed = placed-rows (linksIn (take k row)) (ap linksIn part-is ∙ links-of file) (length (take k′ row′)) (ap length part-is′ ∙ nodes-of file)
+      pub entries-placed : Placed file (linksIn part) (length part′)
+      entries-placed = placed-rows (linksIn part) (ap linksIn part-is ∙ links-of file) (length part′) (ap length part-is′ ∙ nodes-of file)
+
+-- a stored link, as its numbers are read
+pub link-is : (file : List ℕ) (e at : ℕ) → at ≡ linkPlace e → (a : ℕ) → a ≡ numberIn file at 2 → (b : ℕ) → b ≡ numberIn file (at + 2) 2 → (c : ℕ) → c ≡ numberIn file (at + 4) 2 → (d : ℕ) → d ≡ numberIn file (at + 6) 2 → _≡_ {A = Link} (record { first = a; second = b; length = c; mark = d }) (storedLink file e)
+unfolding storedLink
+link-is file e at q a p b r c s d t =
+    let move : (k : ℕ) → numberIn file (at + k) 2 ≡ numberIn file (linkPlace e + k) 2 = λ k. ap (λ (i : ℕ). numberIn file (i + k) 2) q in
+    λ i.
+    record {
+      first = (p ∙ ap (λ (i : ℕ). numberIn file i 2) q) i;
+      second = (r ∙ move 2) i;
+      length = (s ∙ move 4) i;
+      mark = (t ∙ move 6) i;
+    }
+
+-- what the loop over the links keeps: the first k of m are put
+pub record Linking (file : List ℕ) (m : ℕ) (before : List ℕ) (k : ℕ) (now : List ℕ) : Type 0 where
+  pub low : k ≤ m
+  pub room : m ≤ linksIn before
+  pub size : length now ≡ length before
+  pub is : now ≡ linksFrom file k before
+
+module _ (file : List ℕ) (m : ℕ) (before : List ℕ) where
+  pub linking-start : m ≤ linksIn before → Linking file m before 0 before
+  unfolding linksFrom rowsTo pastLinks pastRecords
+  linking-start h = record { low = omega arith; room = h; size = refl; is = refl }
+
+  module _ (k : ℕ) (now : List ℕ) (s : Linking file m before k now) where
+    pub linking-more : k < m → (l : Link) → l ≡ storedLink file k → (after : List ℕ) → length after ≡ length now → after ≡ putLink now k l → Linking file m before (k + 1) after
+    unfolding linksFrom
+    linking-more h l e after z p =
+        record {
+          low = omega arith;
+          room = s .room;
+          size = z ∙ s .size;
+          is = p ∙ (ap (λ (r : List ℕ). putLink r k l) (s .is) ∙ put-next (storedLink file) k before (omega (arith, h, s .room)) l e);
+        }
+
+    pub linking-end : m ≤ k → now ≡ linksFrom file m before
+    linking-end h =
+        let q : k ≡ m = omega (arith, s .low) in
+        s .is ∙ ap (λ (i : ℕ). linksFrom file i before) q

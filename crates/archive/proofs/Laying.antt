@@ -15,12 +15,12 @@ use Rattle.rows.proofs.Records.{rows-length}
 use Rattle.record.specs.Record.{recordPut}
 use Rattle.record.proofs.Putting.{sets-behind, header-size, link-size, entry-size}
 use Rattle.archive.specs.declared.Part.{Part}
-use Rattle.archive.specs.Work.{heldBytes, recordIn, laid, Held}
+use Rattle.archive.specs.Work.{heldBytes, recordBy, laid, Held}
 use Rattle.archive.proofs.Parting.{kind-size}
 
 -- every record of a kind has its size
-pub record-size : (links parents : List ℕ) (search : Search) (entries : List ℕ) (kind r : ℕ) → length (recordIn links parents search entries kind r) ≡ heldBytes kind
-unfolding recordIn
+pub record-size : (links parents : List ℕ) (search : Search) (entries : List ℕ) (kind r : ℕ) → length (recordBy links parents search entries kind r) ≡ heldBytes kind
+unfolding recordBy
 record-size links parents search entries kind r = kind-size kind _ _ _ (header-size _ _ search) (link-size _) (entry-size _ _)
 
 -- what the loop keeps

@@ -2,7 +2,7 @@
 use mathlib.Core.Path.{_≡_, ap, _∙_}
 use mathlib.Core.Bool.{false}
 use mathlib.Core.List.{List, _++_}
-use Prim.Native.Nat.{ℕ, _*_, _≤_}
+use Prim.Native.Nat.{ℕ, _≤_}
 use native.Mathlib.Omega.{arith}
 use lib.Dec.{ltb}
 use lib.ListN.{length, drop}
@@ -11,15 +11,15 @@ use Rattle.edition.specs.declared.Refusal.{Refusal}
 use Rattle.edition.specs.declared.Verdict.{Verdict}
 use Rattle.edition.specs.declared.Verdict.the-variants.{Taken, Refused}
 use Rattle.edition.specs.declared.Why.the-variants.{BadLength, NoRoom}
-use Rattle.edition.specs.Limits.{linkWidth, entryWidth}
 use Rattle.rows.proofs.Refusing.{head-taken, rest-taken, both-taken, none-left, if-taken, if-passes}
 use Rattle.rows.proofs.Tests.{or3-false}
-use Rattle.network.specs.Network.{Net, linksIn}
+use Rattle.entries.specs.Row.{entriesIn, pastEntries}
+use Rattle.network.specs.Network.{Net, linksIn, pastLinks}
 use Rattle.sound.specs.Sound.{netVerdict}
-use Rattle.table.specs.Table.{table, entriesIn, tableVerdict, tableRow}
+use Rattle.table.specs.Table.{table, tableVerdict, tableRow}
 use Rattle.archive.specs.declared.Header.{Header}
 use Rattle.archive.specs.declared.ReadAnswer.the-variants.{Is, Not}
-use Rattle.archive.specs.Reader.{nodesRead, linksRead, headRead, linkRow, parentRow, netRead, Rows, tight, headVerdict, restVerdict, readVerdict, readAnswer, rowsRead}
+use Rattle.archive.specs.Reader.{nodesRead, linksRead, headRead, linksHeld, parentsHeld, netRead, Rows, tight, headVerdict, restVerdict, readVerdict, readAnswer, rowsRead}
 use Rattle.archive.specs.Work.{Blocked}
 use Rattle.archive.proofs.Reading.{nodes-read}
 use Rattle.archive.proofs.Deciding.{sizes-taken, records-alone}
@@ -65,7 +65,7 @@ module _ (file : List ℕ) (rows : Rows) (t : readVerdict file rows ≡ Taken) w
     unfolding headRead
     links-is = ap (λ (k : Header). k .links) h
 
-    pub links-room : head .links * linkWidth ≤ length (rows .links)
+    pub links-room : head .links ≤ linksIn (rows .links)
     links-room = omega (arith, links-is, rooms .0)
 
     pub parents-room : head .nodes ≤ length (rows .parents)
@@ -78,16 +78,16 @@ module _ (file : List ℕ) (rows : Rows) (t : readVerdict file rows ≡ Taken) w
       (both-taken _ _ (if-passes _ NoRoom 0 (le-ltb (entriesIn (rows .entries)) (netRead file .nodes) (omega (arith, rooms .2, nodes-read file)))) none-left)
 
   -- the row of entries that the table leaves
-  pub entries-filled : (g : Net) → g ≡ netRead file → (after : List ℕ) → after ≡ tableRow g (rows .entries) → after ≡ table (netRead file) ++ drop (nodesRead file * entryWidth) (rows .entries)
+  pub entries-filled : (g : Net) → g ≡ netRead file → (after : List ℕ) → after ≡ tableRow g (rows .entries) → after ≡ table (netRead file) ++ pastEntries (nodesRead file) (rows .entries)
   unfolding tableRow
   entries-filled g e after q =
       q
       ∙ (ap (λ (k : Net). tableRow k (rows .entries)) e
-      ∙ (rw table-fits (ap (λ (k : ℕ). table (netRead file) ++ drop (k * entryWidth) (rows .entries)) (nodes-read file))))
+      ∙ (rw table-fits (ap (λ (k : ℕ). table (netRead file) ++ pastEntries k (rows .entries)) (nodes-read file))))
 
 -- the answer and the rows
 module _ (file links parents entries : List ℕ) (v : Verdict) (is : v ≡ readVerdict file (record { links = links; parents = parents; entries = entries })) where
-  pub read-taken : v ≡ Taken → (head : Header) → head ≡ headRead file → (links′ parents′ entries′ : List ℕ) → links′ ≡ linkRow file ++ drop (linksRead file * linkWidth) links → parents′ ≡ parentRow file ++ drop (nodesRead file) parents → entries′ ≡ table (netRead file) ++ drop (nodesRead file * entryWidth) entries → (Is head ≡ readAnswer file (record { links = links; parents = parents; entries = entries })) × (links′ ≡ rowsRead file (record { links = links; parents = parents; entries = entries }) .links) × (parents′ ≡ rowsRead file (record { links = links; parents = parents; entries = entries }) .parents) × (entries′ ≡ rowsRead file (record { links = links; parents = parents; entries = entries }) .entries)
+  pub read-taken : v ≡ Taken → (head : Header) → head ≡ headRead file → (links′ parents′ entries′ : List ℕ) → links′ ≡ linksHeld file ++ pastLinks (linksRead file) links → parents′ ≡ parentsHeld file ++ drop (nodesRead file) parents → entries′ ≡ table (netRead file) ++ pastEntries (nodesRead file) entries → (Is head ≡ readAnswer file (record { links = links; parents = parents; entries = entries })) × (links′ ≡ rowsRead file (record { links = links; parents = parents; entries = entries }) .links) × (parents′ ≡ rowsRead file (record { links = links; parents = parents; entries = entries }) .parents) × (entries′ ≡ rowsRead file (record { links = links; parents = parents; entries = entries }) .entries)
   unfolding readAnswer rowsRead
   read-taken t head h links′ parents′ entries′ p q r = (rw (← is, t) (ap Is h), rw (← is, t) p, rw (← is, t) q, rw (← is, t) r)
 

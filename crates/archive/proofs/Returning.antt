@@ -2,24 +2,24 @@
 use mathlib.Core.Path.{_≡_, refl, sym, subst, ap, ap₂, _∙_}
 use mathlib.Core.Bool.{Bool, true, false}
 use mathlib.Core.List.{List, [], _∷_, _++_}
-use Prim.Native.Nat.{ℕ, zero, suc, _+_, _*_, _/_, _%_, _<_, _≤_}
+use Prim.Native.Nat.{ℕ, _+_, _*_, _<_, _≤_}
 use native.Mathlib.Nat.{add-zero}
 use native.Mathlib.Omega.{arith}
-use lib.Dec.{eqb, ltb}
-use lib.ListN.{length, getD, take}
-use lib.Seq.{ext-getD, length-take-le, getD-take}
-use borrow.Author.Tests.{eqb-true, not-false, lt-ltb}
+use lib.Dec.{eqb}
+use lib.ListN.{length, getD}
+use lib.Seq.{ext-getD}
+use borrow.Author.Tests.{eqb-true, not-false}
 use Rattle.edition.specs.declared.Entry.{Entry}
 use Rattle.edition.specs.declared.Search.{Search}
 use Rattle.edition.specs.declared.Verdict.the-variants.{Taken}
-use Rattle.edition.specs.Limits.{noLink, wholeSearch, linkWidth, longest}
+use Rattle.edition.specs.Limits.{noLink, wholeSearch, longest}
 use Rattle.edition.specs.Stored.{headerBytes, linkBytes, entryBytes}
-use Rattle.rows.specs.Count.{rowsTo, onlyIf}
-use Rattle.rows.proofs.Counting.{only-small}
+use Rattle.rows.specs.Count.{rowsTo}
 use Rattle.rows.proofs.Records.{rows-length}
-use Rattle.network.specs.Network.{Net, linksIn, fieldIn, linkIn, netOf}
+use Rattle.network.specs.Network.{Net, linksIn, linkIn, netOf}
+use Rattle.network.proofs.Keeping.{rows-count, rows-link}
 use Rattle.network.specs.Records.{badParent}
-use Rattle.network.proofs.Whole.{same-network}
+use Rattle.network.proofs.Whole.{same-network, first-held, second-held, length-held, mark-held}
 use Rattle.sound.specs.Sound.{netVerdict}
 use Rattle.sound.proofs.Sounds.{sound}
 use Rattle.sound.proofs.Holding.{nodes-few, links-few, root-in, depth-few, parent-in}
@@ -28,9 +28,8 @@ use Rattle.block.specs.Bytes.{bytesOf, numberIn, wordMost}
 use Rattle.record.specs.Record.{headerRecord, linkRecord, entryRecord}
 use Rattle.archive.specs.Parts.{linkPlace, entryPlace}
 use Rattle.archive.specs.Writer.{fileOf}
-use Rattle.archive.specs.Reader.{nodesRead, linksRead, searchRead, linkRow, parentRow, netRead}
+use Rattle.archive.specs.Reader.{nodesRead, linksRead, searchRead, storedLink, linksHeld, parentsHeld, netRead}
 use Rattle.archive.proofs.Pieces.{row-get, number-part}
-use Rattle.archive.proofs.Reading.{numbersAt, numbers-four}
 use Rattle.archive.proofs.Filed.{header-there, link-there, entry-there}
 
 -- four numbers of 16 bits, read back
@@ -58,13 +57,6 @@ module _ (a b c d : ℕ) where
 parent-of-entry : (u : ℕ) (e : Entry) → u ≤ wordMost → numberIn (entryRecord u e) 0 2 ≡ u
 unfolding entryRecord bytesOf numberIn
 parent-of-entry u e h = omega arith
-
-by-four : (P : ℕ → Type 0) → P 0 → P 1 → P 2 → P 3 → (i : ℕ) → i < 4 → P i
-by-four P a b c d zero l = a
-by-four P a b c d (suc zero) l = b
-by-four P a b c d (suc (suc zero)) l = c
-by-four P a b c d (suc (suc (suc zero))) l = d
-by-four P a b c d (suc (suc (suc (suc i)))) l = absurd (omega arith)
 
 module _ (g : Net) (ok : netVerdict g ≡ Taken) where
   depth-small : g .search .depth ≤ wordMost
@@ -117,31 +109,27 @@ module _ (g : Net) (ok : netVerdict g ≡ Taken) where
   in-link e q l h =
       sym (number-part (fileOf g) (linkPlace e) linkBytes q 2 h) ∙ ap (λ (s : List ℕ). numberIn s q 2) (link-there g e l)
 
+  -- each link, whose numbers have 16 bits
+  pub link-written : (e : ℕ) → e < g .links → g .link e .first ≤ wordMost → g .link e .second ≤ wordMost → g .link e .length ≤ wordMost → g .link e .mark ≤ wordMost → storedLink (fileOf g) e ≡ g .link e
+  unfolding storedLink linkRecord
+  link-written e l p q r s =
+      let a = g .link e .first in
+      let b = g .link e .second in
+      let c = g .link e .length in
+      let d = g .link e .mark in
+      let zeroth : numberIn (fileOf g) (linkPlace e) 2 ≡ numberIn (fileOf g) (linkPlace e + 0) 2 = ap (λ (k : ℕ). numberIn (fileOf g) k 2) (sym (add-zero (linkPlace e))) in
+      λ i.
+      record {
+        first = (zeroth ∙ (in-link e 0 l (omega arith) ∙ first-of-four a b c d p)) i;
+        second = (in-link e 2 l (omega arith) ∙ second-of-four a b c d q) i;
+        length = (in-link e 4 l (omega arith) ∙ third-of-four a b c d r) i;
+        mark = (in-link e 6 l (omega arith) ∙ fourth-of-four a b c d s) i;
+      }
+
 -- a sound network of lent rows, whose numbers have 16 bits
 module _ (links parents : List ℕ) (search : Search) (ok : netVerdict (netOf links parents search) ≡ Taken) (held : (i : ℕ) → getD links i 0 ≤ longest) where
   abbrev g : Net
   g = netOf links parents search
-
-  field-small : (e i : ℕ) → fieldIn links e i ≤ wordMost
-  unfolding fieldIn
-  field-small e i = only-small (ltb e (linksIn links)) (getD links (e * linkWidth + i) 0) longest (λ q. held (e * linkWidth + i))
-
-  field-is : (e i : ℕ) → e < linksIn links → fieldIn links e i ≡ getD links (e * linkWidth + i) 0
-  unfolding fieldIn onlyIf
-  field-is e i l = rw (lt-ltb e (linksIn links) l)
-
-  numbers-written : (e : ℕ) → e < linksIn links → (i : ℕ) → i < linkWidth → getD (numbersAt (fileOf g) e) i 0 ≡ fieldIn links e i
-  unfolding rowsTo netOf linkIn linkRecord
-  numbers-written e l =
-      let a = fieldIn links e 0 in
-      let b = fieldIn links e 1 in
-      let c = fieldIn links e 2 in
-      let d = fieldIn links e 3 in
-      by-four (λ i. getD (numbersAt (fileOf g) e) i 0 ≡ fieldIn links e i)
-      (in-link g ok e 0 l (omega arith) ∙ first-of-four a b c d (field-small e 0))
-      (in-link g ok e 2 l (omega arith) ∙ second-of-four a b c d (field-small e 1))
-      (in-link g ok e 4 l (omega arith) ∙ third-of-four a b c d (field-small e 2))
-      (in-link g ok e 6 l (omega arith) ∙ fourth-of-four a b c d (field-small e 3))
 
   links-counted : linksRead (fileOf g) ≡ linksIn links
   unfolding netOf
@@ -151,30 +139,22 @@ module _ (links parents : List ℕ) (search : Search) (ok : netVerdict (netOf li
   unfolding netOf
   nodes-counted = nodes-written g ok
 
-  row-length : length (linkRow (fileOf g)) ≡ linksIn links * linkWidth
-  unfolding linkRow
-  row-length = omega (arith, rows-length (numbersAt (fileOf g)) linkWidth (numbers-four (fileOf g)) (linksRead (fileOf g)), links-counted)
+  row-count : linksIn (linksHeld (fileOf g)) ≡ linksIn links
+  unfolding linksHeld
+  row-count = rows-count (storedLink (fileOf g)) (linksRead (fileOf g)) ∙ links-counted
 
-  row-numbers : (e i : ℕ) → e < linksIn links → i < linkWidth → getD (linkRow (fileOf g)) (e * linkWidth + i) 0 ≡ getD links (e * linkWidth + i) 0
-  unfolding linkRow
-  row-numbers e i l h =
-      row-get (numbersAt (fileOf g)) linkWidth (numbers-four (fileOf g)) (linksRead (fileOf g)) e i 0 (omega (arith, l, links-counted)) h
-      ∙ (numbers-written e l i h ∙ field-is e i l)
+  stored-is : (e : ℕ) → e < linksIn links → storedLink (fileOf g) e ≡ linkIn links e
+  unfolding netOf
+  stored-is e l = link-written g ok e l (first-held links held e) (second-held links held e) (length-held links held e) (mark-held links held e)
 
-  -- the row of links read is the row that was written, cut to whole records
-  pub links-back : linkRow (fileOf g) ≡ take (linksIn links * linkWidth) links
-  links-back =
-      ext-getD 0 (linkRow (fileOf g)) (take (linksIn links * linkWidth) links)
-      (row-length ∙ sym (length-take-le (linksIn links * linkWidth) links (omega arith)))
-      (λ j l.
-      let low : j < linksIn links * linkWidth = omega (arith, l, row-length) in
-      let here : j / linkWidth * linkWidth + j % linkWidth ≡ j = omega arith in
-      subst (λ (k : ℕ). getD (linkRow (fileOf g)) k 0 ≡ getD links k 0) here (row-numbers (j / linkWidth) (j % linkWidth) (omega (arith, low)) (omega arith))
-      ∙ sym (getD-take (linksIn links * linkWidth) links j 0 low))
+  -- the links read are those that were written, record for record
+  pub links-back : (e : ℕ) → e < linksIn links → linkIn (linksHeld (fileOf g)) e ≡ linkIn links e
+  unfolding linksHeld
+  links-back e l = rows-link (storedLink (fileOf g)) (linksRead (fileOf g)) e (omega (arith, l, links-counted)) ∙ stored-is e l
 
   -- the row of parents read is the row that was written
-  pub parents-back : parentRow (fileOf g) ≡ parents
-  unfolding parentRow netOf
+  pub parents-back : parentsHeld (fileOf g) ≡ parents
+  unfolding parentsHeld netOf
   parents-back =
       let f : ℕ → List ℕ = λ x. numberIn (fileOf g) (entryPlace (linksRead (fileOf g)) x) 2 ∷ [] in
       let size = rows-length f 1 (λ x. refl) (nodesRead (fileOf g)) in
@@ -193,7 +173,7 @@ module _ (links parents : List ℕ) (search : Search) (ok : netVerdict (netOf li
   pub network-back : netRead (fileOf g) ≡ g
   unfolding netRead
   network-back =
-      ap₂ (λ (p : List ℕ) (s : Search). netOf (linkRow (fileOf g)) p s) parents-back search-back
-      ∙ same-network (linkRow (fileOf g)) links
-      (record { count = omega (arith, row-length); numbers = λ e i l h. row-numbers e i (omega (arith, l, row-length)) h })
+      ap₂ (λ (p : List ℕ) (s : Search). netOf (linksHeld (fileOf g)) p s) parents-back search-back
+      ∙ same-network (linksHeld (fileOf g)) links
+      (record { count = row-count; records = λ e l. links-back e (omega (arith, l, row-count)) })
       parents search

@@ -75,15 +75,15 @@ module _ (g : Net) where
       let size = file-size g in
       rw (ne-eqb (length (fileOf g)) 0 (λ z. omega (arith, z, size)), eq-eqb (length (fileOf g) % blockBytes) 0 (omega (arith, size)))
 
-  module _ (ok : netVerdict g ≡ Taken) where
+  module _ (ok : netVerdict g ≡ Taken) (fits : sizeVerdict editionLimits n m (g .search) ≡ Taken) where
     head-accepted : headVerdict (fileOf g) ≡ Taken
-    unfolding headVerdict netVerdict
+    unfolding headVerdict
     head-accepted =
         both-taken _ _ (if-passes _ BadLength 0 even)
         (both-taken _ _ header-taken
         (both-taken _ _
         (ap₂ (λ (a b : ℕ). sizeVerdict editionLimits a b (searchRead (fileOf g))) (nodes-written g ok) (links-written g ok)
-        ∙ (ap (sizeVerdict editionLimits n m) (depth-written g ok) ∙ head-taken _ _ ok))
+        ∙ (ap (sizeVerdict editionLimits n m) (depth-written g ok) ∙ fits))
         none-left))
 
     module _ (back : netRead (fileOf g) ≡ g) (rows : Rows) (room : tight n m rows ≡ false) where
@@ -116,8 +116,8 @@ module _ (g : Net) where
       unfolding readVerdict
       all-accepted = both-taken _ _ head-accepted (both-taken _ _ rest-accepted none-left)
 
--- the file of a sound network of rows whose numbers have 16 bits is taken
-pub written-accepted : (links parents : List ℕ) (search : Search) → netVerdict (netOf links parents search) ≡ Taken → ((i : ℕ) → getD links i 0 ≤ longest) → (rows : Rows) → tight (length parents) (linksIn links) rows ≡ false → readVerdict (fileOf (netOf links parents search)) rows ≡ Taken
+-- the file of a sound network within edition 1's limits, of rows whose numbers have 16 bits, is taken
+pub written-accepted : (links parents : List ℕ) (search : Search) → netVerdict (netOf links parents search) ≡ Taken → sizeVerdict editionLimits (length parents) (linksIn links) search ≡ Taken → ((i : ℕ) → getD links i 0 ≤ longest) → (rows : Rows) → tight (length parents) (linksIn links) rows ≡ false → readVerdict (fileOf (netOf links parents search)) rows ≡ Taken
 unfolding netOf
-written-accepted links parents search ok held rows room =
-    all-accepted (netOf links parents search) ok (network-back links parents search ok held) rows room
+written-accepted links parents search ok fits held rows room =
+    all-accepted (netOf links parents search) ok fits (network-back links parents search ok held) rows room

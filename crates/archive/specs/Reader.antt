@@ -8,17 +8,18 @@ use Rattle.edition.specs.declared.Search.{Search}
 use Rattle.edition.specs.declared.Verdict.{Verdict}
 use Rattle.edition.specs.declared.Verdict.the-variants.{Taken, Refused}
 use Rattle.edition.specs.declared.Why.the-variants.{BadLength, NoRoom, BadEntry}
-use Rattle.edition.specs.Limits.{linkWidth, entryWidth}
 use Rattle.edition.specs.Stored.{editionLimits, blockBytes, entryBytes}
 use Rattle.edition.specs.Refusals.{made}
 use Rattle.rows.specs.Count.{rowsTo}
 use Rattle.rows.specs.First.{refuseIf, refuseAt, firstly, verdictTo}
 use Rattle.rows.specs.Lists.{same}
-use Rattle.network.specs.Network.{Net, netOf, linksIn}
+use Rattle.entries.specs.Row.{entriesIn, pastEntries}
+use Rattle.network.specs.declared.Link.{Link}
+use Rattle.network.specs.Network.{Net, netOf, linksIn, linkRow, pastLinks}
 use Rattle.network.specs.Records.{sizeVerdict}
 use Rattle.sound.specs.Sound.{recordVerdict}
 use Rattle.swap.specs.Entry.{entry}
-use Rattle.table.specs.Table.{table, entriesIn}
+use Rattle.table.specs.Table.{table}
 use Rattle.block.specs.Bytes.{numberIn}
 use Rattle.block.specs.Block.{blockVerdict}
 use Rattle.archive.specs.declared.Header.{Header}
@@ -40,17 +41,28 @@ searchRead file = record { root = numberIn file 12 2; depth = numberIn file 14 2
 unfoldable pub headRead : List ℕ → Header
 headRead file = record { nodes = nodesRead file; links = linksRead file; search = searchRead file }
 
--- The row of links: two ends, length and service mark of each.
-unfoldable pub linkRow : List ℕ → List ℕ
-linkRow file = rowsTo (λ e. rowsTo (λ i. numberIn file (linkPlace e + 2 * i) 2 ∷ []) linkWidth) (linksRead file)
+-- Link e as the file stores it: two ends, length and service mark, 2 bytes each.
+unfoldable pub storedLink : List ℕ → ℕ → Link
+storedLink file e =
+    let at = linkPlace e in
+    record {
+      first = numberIn file at 2;
+      second = numberIn file (at + 2) 2;
+      length = numberIn file (at + 4) 2;
+      mark = numberIn file (at + 6) 2;
+    }
+
+-- The row of links: the record of each.
+unfoldable pub linksHeld : List ℕ → List ℕ
+linksHeld file = rowsTo (λ e. linkRow (storedLink file e)) (linksRead file)
 
 -- The row of parents: the first number of each entry.
-unfoldable pub parentRow : List ℕ → List ℕ
-parentRow file = rowsTo (λ x. numberIn file (entryPlace (linksRead file) x) 2 ∷ []) (nodesRead file)
+unfoldable pub parentsHeld : List ℕ → List ℕ
+parentsHeld file = rowsTo (λ x. numberIn file (entryPlace (linksRead file) x) 2 ∷ []) (nodesRead file)
 
 -- The network that a file holds.
 unfoldable pub netRead : List ℕ → Net
-netRead file = netOf (linkRow file) (parentRow file) (searchRead file)
+netRead file = netOf (linksHeld file) (parentsHeld file) (searchRead file)
 
 -- Block i of a file, as bytes, and what it is refused for in a file of n nodes and m links.
 unfoldable pub blockAt : List ℕ → ℕ → List ℕ
@@ -119,8 +131,8 @@ rowsRead file rows =
     let m = linksRead file in
     let new : Rows =
     record {
-      links = linkRow file ++ drop (m * linkWidth) (rows .links);
-      parents = parentRow file ++ drop n (rows .parents);
-      entries = table (netRead file) ++ drop (n * entryWidth) (rows .entries);
+      links = linksHeld file ++ pastLinks m (rows .links);
+      parents = parentsHeld file ++ drop n (rows .parents);
+      entries = table (netRead file) ++ pastEntries n (rows .entries);
     } in
     made (readVerdict file rows) new rows

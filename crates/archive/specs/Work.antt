@@ -2,7 +2,7 @@
 use mathlib.Core.Bool.{Bool, cond, not}
 use mathlib.Core.Path.{_≡_}
 use mathlib.Core.List.{List, [], _∷_, _++_}
-use Prim.Native.Nat.{ℕ, _+_, _*_, _/_, _%_, _<_, _≤_}
+use Prim.Native.Nat.{ℕ, _+_, _*_, _<_, _≤_}
 use lib.Dec.{eqb}
 use lib.ListN.{length, getD, take, drop}
 use lib.Seq.{sets}
@@ -11,30 +11,30 @@ use Rattle.edition.specs.declared.Verdict.{Verdict}
 use Rattle.edition.specs.declared.Verdict.the-variants.{Taken}
 use Rattle.edition.specs.declared.Why.the-variants.{NoRoom, BadEntry}
 use Rattle.rows.specs.First.{refuseIf, refuseAt, firstly}
-use Rattle.edition.specs.Limits.{noLink, linkLimit, linkWidth}
+use Rattle.edition.specs.Limits.{noLink, linkLimit}
 use Rattle.edition.specs.Stored.{editionLimits, blockBytes, frontBytes, headerKind, linksKind, headerBytes, linkBytes, entryBytes}
 use Rattle.rows.specs.Count.{rowsTo}
 use Rattle.rows.specs.Lists.{same}
 use Rattle.swap.specs.Entry.{entry}
-use Rattle.network.specs.Network.{Net, linksIn, linkIn}
+use Rattle.entries.specs.Row.{entryAt}
+use Rattle.network.specs.Network.{Net, linksIn, linkIn, linkRow, pastLinks}
 use Rattle.sound.specs.Sound.{netVerdict}
 use Rattle.table.specs.Table.{table}
-use Rattle.table.specs.Work.{entryAt}
 use Rattle.record.specs.Record.{headerRecord, linkRecord, entryRecord}
 use Rattle.block.specs.Bytes.{numberIn}
 use Rattle.archive.specs.declared.Part.{Part}
 use Rattle.network.specs.Records.{sizeVerdict}
 use Rattle.archive.specs.declared.Header.{Header}
-use Rattle.archive.specs.Parts.{blockCount, linkPlace, entryPlace}
-use Rattle.archive.specs.Reader.{nodesRead, linksRead, searchRead, headRead}
+use Rattle.archive.specs.Parts.{blockCount, entryPlace}
+use Rattle.archive.specs.Reader.{nodesRead, linksRead, searchRead, headRead, storedLink}
 
 -- bytes a record of a kind; what is neither header nor link is an entry
 unfoldable pub heldBytes : ℕ → ℕ
 heldBytes kind = cond (eqb kind headerKind) headerBytes (cond (eqb kind linksKind) linkBytes entryBytes)
 
 -- record r of a kind, by the lent rows and a row of entries
-unfoldable pub recordIn : List ℕ → List ℕ → Search → List ℕ → ℕ → ℕ → List ℕ
-recordIn links parents search entries kind r =
+unfoldable pub recordBy : List ℕ → List ℕ → Search → List ℕ → ℕ → ℕ → List ℕ
+recordBy links parents search entries kind r =
     let header = headerRecord (length parents) (linksIn links) search in
     let link = linkRecord (linkIn links r) in
     let own = entryRecord (getD parents r noLink) (entryAt entries r) in
@@ -55,9 +55,9 @@ pub record Tabled (g : Net) (entries : List ℕ) : Type 0 where
   pub more : List ℕ
   pub is : entries ≡ table g ++ more
 
--- number j of the row of links that a file holds
-unfoldable pub linkNumber : List ℕ → ℕ → ℕ
-linkNumber file j = numberIn file (linkPlace (j / linkWidth) + 2 * (j % linkWidth)) 2
+-- a row that begins with the records of the first m links of a file
+unfoldable pub linksFrom : List ℕ → ℕ → List ℕ → List ℕ
+linksFrom file m row = rowsTo (λ e. linkRow (storedLink file e)) m ++ pastLinks m row
 
 -- the parent link of x in a file of m links
 unfoldable pub parentNumber : List ℕ → ℕ → ℕ → ℕ

@@ -3,18 +3,18 @@ ghost use mathlib.Core.Path.{_≡_};
 ghost use Prim.Native.Nat.{_+_, _*_, _-_, _<_, _≤_, min};
 ghost use mathlib.Core.List.{_++_};
 ghost use lib.ListN.{length, take, drop};
-ghost use Rattle.edition.specs.Limits.{nodeLimit, linkLimit, linkWidth, entryWidth};
+ghost use Rattle.edition.specs.Limits.{nodeLimit, linkLimit};
 ghost use Rattle.edition.specs.Stored.{blockBytes, entryBytes};
-ghost use Rattle.network.specs.Network.{netOf, linksIn};
+ghost use Rattle.entries.specs.Row.{pastEntries};
+ghost use Rattle.network.specs.Network.{netOf, linksIn, pastLinks};
 ghost use Rattle.sound.specs.Sound.{netVerdict};
-ghost use Rattle.table.specs.Work.{entryAt};
 ghost use Rattle.block.specs.Bytes.{wordMost};
 ghost use Rattle.record.specs.Record.{recordPut};
-ghost use Rattle.archive.specs.Work.{heldBytes, recordIn, laid, Held, Tabled, linkNumber, parentNumber, badBy, badStored, Placed, contentVerdict, Blocked};
+ghost use Rattle.archive.specs.Work.{heldBytes, recordBy, laid, Held, Tabled, linksFrom, parentNumber, badBy, badStored, Placed, contentVerdict, Blocked};
 ghost use Rattle.rows.specs.Count.{rowWith};
 ghost use Rattle.rows.specs.Lists.{same};
 ghost use Rattle.rows.specs.First.{firstTo, verdictTo};
-ghost use Rattle.archive.specs.Reader.{blockRefusal, headRead, netRead, unequal, headVerdict, tight, readVerdict, readAnswer, rowsRead, nodesRead, linksRead, linkRow, parentRow};
+ghost use Rattle.archive.specs.Reader.{blockRefusal, headRead, netRead, unequal, headVerdict, tight, readVerdict, readAnswer, rowsRead, nodesRead, linksRead, storedLink, linksHeld, parentsHeld};
 ghost use Rattle.table.specs.Table.{table};
 ghost use Rattle.archive.specs.Writer.{blockOf, fileOf, fileLength, writeVerdict, writeAnswer, writtenRow};
 ghost use Rattle.edition.specs.declared.Verdict.the-variants.{Taken};
@@ -25,9 +25,10 @@ use edition::Found;
 use edition::Memory;
 use edition::Refusal;
 use edition::Search;
-use edition::Swap;
 use edition::Verdict;
 use edition::Why;
+use network::Link;
+use sound::Checked;
 
 // What a block holds: its kind, the number of its first record, and how many it holds.
 pub struct Part {
@@ -134,32 +135,6 @@ fn held_bytes(kind: u8) -> usize
     Edition::ENTRY_BYTES
 }
 
-// The entry of node x in a row of entries.
-fn entry_in(entries: &[u64], x: usize) -> Entry
-    requires { ⌜ x < linkLimit ⌝ }
-    ensures { λ r. ⌜ r ≡ entryAt (now (entries .entry)) x ⌝ }
-{
-    let at = x * Memory::ENTRY;
-    let sum = Swap {
-        link: rows::wide_at(entries, at + 1),
-        cost: rows::wide_at(entries, at + 4),
-    };
-    let incr = Swap {
-        link: rows::wide_at(entries, at + 2),
-        cost: rows::wide_at(entries, at + 5),
-    };
-    let max = Swap {
-        link: rows::wide_at(entries, at + 3),
-        cost: rows::wide_at(entries, at + 6),
-    };
-    Entry {
-        state: rows::wide_at(entries, at),
-        sum,
-        incr,
-        max,
-    }
-}
-
 // Puts record r of a kind from a place on.
 fn put_record(
     links: &[u16],
@@ -171,8 +146,8 @@ fn put_record(
     block: &mut [u8],
     at: usize,
 )
-    requires { ⌜ (r < linkLimit) × (length (now parents) ≤ nodeLimit) × (linksIn (now links) ≤ linkLimit) ⌝ }
-    ensures { λ _. ⌜ now (block .exit) ≡ recordPut at (heldBytes kind) (recordIn (now (links .entry)) (now (parents .entry)) search (now (entries .entry)) kind r) (now (block .entry)) ⌝ }
+    requires { ⌜ (length (now parents) ≤ nodeLimit) × (linksIn (now links) ≤ linkLimit) ⌝ }
+    ensures { λ _. ⌜ now (block .exit) ≡ recordPut at (heldBytes kind) (recordBy (now (links .entry)) (now (parents .entry)) search (now (entries .entry)) kind r) (now (block .entry)) ⌝ }
 {
     if kind == Edition::HEADER_KIND {
         let n = parents.len() as u16;
@@ -187,7 +162,7 @@ fn put_record(
         block,
         at,
         network::parent_of(parents, r),
-        entry_in(entries, r),
+        entries::entry_at(entries, r),
     );
 }
 
@@ -201,7 +176,7 @@ fn put_records(
     block: &mut [u8],
 )
     requires { ⌜ Held part (length (now block)) × (length (now parents) ≤ nodeLimit) × (linksIn (now links) ≤ linkLimit) ⌝ }
-    ensures { λ _. ⌜ now (block .exit) ≡ laid (recordIn (now (links .entry)) (now (parents .entry)) search (now (entries .entry)) (part .kind)) part (now (block .entry)) ⌝ }
+    ensures { λ _. ⌜ now (block .exit) ≡ laid (recordBy (now (links .entry)) (now (parents .entry)) search (now (entries .entry)) (part .kind)) part (now (block .entry)) ⌝ }
 {
     let size = held_bytes(part.kind);
     let mut r = 0;
@@ -270,11 +245,11 @@ fn write_blocks(links: &[u16], parents: &[u16], search: Search, entries: &[u64],
 pub fn check_write(links: &[u16], parents: &[u16], search: Search, file: &[u8]) -> Verdict
     ensures { λ r. ⌜ r ≡ writeVerdict (netOf (now (links .entry)) (now (parents .entry)) search) (now (file .entry)) ⌝ }
 {
-    let said = sound::verdict(links, parents, search);
-    let Verdict::Taken = said else {
-        return said;
+    let said = sound::check_network(links, parents, search);
+    let Checked::Sound(sizes) = said else {
+        return sound::handed_up(said);
     };
-    let length = file_length(parents.len(), network::links_in(links));
+    let length = file_length(sizes.nodes, sizes.links);
     rows::refuse_if(file.len() < length, Why::NoRoom, 0)
 }
 
@@ -283,7 +258,7 @@ fn write_sound(links: &[u16], parents: &[u16], search: Search, file: &mut [u8]) 
     requires { ⌜ writeVerdict (netOf (now links) (now parents) search) (now file) ≡ Taken ⌝ }
     ensures { λ r. ⌜ (r ≡ fileLength (netOf (now (links .entry)) (now (parents .entry)) search)) × (now (file .exit) ≡ fileOf (netOf (now (links .entry)) (now (parents .entry)) search) ++ drop (fileLength (netOf (now (links .entry)) (now (parents .entry)) search)) (now (file .entry))) ⌝ }
 {
-    let mut entries = [0u64; Memory::NODES * Memory::ENTRY];
+    let mut entries = [0u64; Memory::ENTRY_ROW];
     table::table(links, parents, search, &mut entries);
     write_blocks(links, parents, search, &entries, file);
     file_length(parents.len(), network::links_in(links))
@@ -397,16 +372,29 @@ fn entry_place(m: usize, x: usize) -> usize
         + x % Edition::ENTRIES_A_BLOCK * Edition::ENTRY_BYTES
 }
 
-// The link numbers of a file of m links, at the beginning of a row.
-fn fill_links(file: &[u8], m: usize, row: &mut [u16])
-    requires { ⌜ (m ≤ wordMost) × (m * linkWidth ≤ length (now row)) ⌝ }
-    ensures { λ _. ⌜ now (row .exit) ≡ rowWith (linkNumber (now (file .entry))) (m * linkWidth) (now (row .entry)) ⌝ }
+// Link e as a file stores it.
+fn stored_link(file: &[u8], e: usize) -> Link
+    requires { ⌜ e ≤ wordMost ⌝ }
+    ensures { λ r. ⌜ r ≡ storedLink (now (file .entry)) e ⌝ }
 {
-    let mut j = 0;
-    while j < m * Memory::LINK {
-        let place = link_place(j / Memory::LINK) + 2 * (j % Memory::LINK);
-        row[j] = record::two_at(file, place);
-        j += 1;
+    let at = link_place(e);
+    Link {
+        first: record::two_at(file, at),
+        second: record::two_at(file, at + 2),
+        length: record::two_at(file, at + 4),
+        mark: record::two_at(file, at + 6),
+    }
+}
+
+// The records of a file's m links, at the beginning of a row.
+fn fill_links(file: &[u8], m: usize, row: &mut [u16])
+    requires { ⌜ (m ≤ wordMost) × (m ≤ linksIn (now row)) ⌝ }
+    ensures { λ _. ⌜ now (row .exit) ≡ linksFrom (now (file .entry)) m (now (row .entry)) ⌝ }
+{
+    let mut e = 0;
+    while e < m {
+        network::put_link(row, e, stored_link(file, e));
+        e += 1;
     }
 }
 
@@ -447,7 +435,7 @@ fn is_bad_entry(file: &[u8], m: usize, parents: &[u16], entries: &[u64], x: usiz
         &mut own,
         0,
         network::parent_of(parents, x),
-        entry_in(entries, x),
+        entries::entry_at(entries, x),
     );
     !is_same(file, entry_place(m, x), &own)
 }
@@ -471,7 +459,7 @@ fn first_bad_entry(file: &[u8], links: &[u16], parents: &[u16], search: Search) 
     requires { ⌜ (netVerdict (netOf (now links) (now parents) search) ≡ Taken) × Placed (now file) (linksIn (now links)) (length (now parents)) ⌝ }
     ensures { λ r. ⌜ r ≡ firstTo (badStored (now (file .entry)) (netOf (now (links .entry)) (now (parents .entry)) search)) (length (now (parents .entry))) ⌝ }
 {
-    let mut entries = [0u64; Memory::NODES * Memory::ENTRY];
+    let mut entries = [0u64; Memory::ENTRY_ROW];
     table::table(links, parents, search, &mut entries);
     seek_bad_entry(file, network::links_in(links), parents, &entries)
 }
@@ -487,9 +475,9 @@ fn check_content(
     requires { ⌜ Placed (now file) (linksIn (now links)) (length (now parents)) ⌝ }
     ensures { λ r. ⌜ r ≡ contentVerdict (now (file .entry)) (netOf (now (links .entry)) (now (parents .entry)) search) tight ⌝ }
 {
-    let said = sound::verdict(links, parents, search);
-    let Verdict::Taken = said else {
-        return said;
+    let said = sound::check_network(links, parents, search);
+    let Checked::Sound(_) = said else {
+        return sound::handed_up(said);
     };
     let room = rows::refuse_if(tight, Why::NoRoom, 0);
     let Verdict::Taken = room else {
@@ -505,12 +493,17 @@ fn check_records(file: &[u8], head: Header, tight: bool) -> Verdict
 {
     let n = head.nodes;
     let m = head.links;
-    let count = m * Memory::LINK;
-    let mut links = [0u16; Memory::LINKS * Memory::LINK];
+    let mut links = [0u16; Memory::LINK_ROW];
     fill_links(file, m, &mut links);
     let mut parents = [0u16; Memory::NODES];
     fill_parents(file, m, n, &mut parents);
-    check_content(file, &links[0..count], &parents[0..n], head.search, tight)
+    check_content(
+        file,
+        network::first_links(&links, m),
+        rows::first(&parents, n),
+        head.search,
+        tight,
+    )
 }
 
 // Whether a lent row is too short for what a file holds.
@@ -523,7 +516,7 @@ fn is_tight(head: Header, links: &[u16], parents: &[u16], entries: &[u64]) -> bo
     if parents.len() < head.nodes {
         return true;
     }
-    entries.len() / Memory::ENTRY < head.nodes
+    entries::entries_in(entries) < head.nodes
 }
 
 // Whether a file is accepted: refusals in the order for a file. Nothing is written.
@@ -550,15 +543,19 @@ pub fn check_read(file: &[u8], links: &[u16], parents: &[u16], entries: &[u64]) 
 // What an accepted file holds, at the beginning of the lent rows.
 fn fill_rows(file: &[u8], links: &mut [u16], parents: &mut [u16], entries: &mut [u64]) -> Header
     requires { ⌜ readVerdict (now file) (record { links = now links; parents = now parents; entries = now entries }) ≡ Taken ⌝ }
-    ensures { λ r. ⌜ (r ≡ headRead (now (file .entry))) × (now (links .exit) ≡ linkRow (now (file .entry)) ++ drop (linksRead (now (file .entry)) * linkWidth) (now (links .entry))) × (now (parents .exit) ≡ parentRow (now (file .entry)) ++ drop (nodesRead (now (file .entry))) (now (parents .entry))) × (now (entries .exit) ≡ table (netRead (now (file .entry))) ++ drop (nodesRead (now (file .entry)) * entryWidth) (now (entries .entry))) ⌝ }
+    ensures { λ r. ⌜ (r ≡ headRead (now (file .entry))) × (now (links .exit) ≡ linksHeld (now (file .entry)) ++ pastLinks (linksRead (now (file .entry))) (now (links .entry))) × (now (parents .exit) ≡ parentsHeld (now (file .entry)) ++ drop (nodesRead (now (file .entry))) (now (parents .entry))) × (now (entries .exit) ≡ table (netRead (now (file .entry))) ++ pastEntries (nodesRead (now (file .entry))) (now (entries .entry))) ⌝ }
 {
     let head = header_of(file);
     let n = head.nodes;
     let m = head.links;
-    let count = m * Memory::LINK;
     fill_links(file, m, links);
     fill_parents(file, m, n, parents);
-    table::table(&links[0..count], &parents[0..n], head.search, entries);
+    table::table(
+        network::first_links(links, m),
+        rows::first(parents, n),
+        head.search,
+        entries,
+    );
     head
 }
 

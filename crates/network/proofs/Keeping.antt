@@ -1,12 +1,13 @@
 -- A link that is put is read back, and every other stays; the numbers of a link, where they stand in a row. Assumes nothing.
 use mathlib.Core.Path.{_≡_, refl, sym, ap, _∙_}
-use mathlib.Core.List.{List, []}
+use mathlib.Core.List.{List, [], _++_, append-nil}
 use Prim.Native.Nat.{ℕ, _+_, _*_, _<_, _≤_}
 use native.Mathlib.Omega.{arith}
 use lib.ListN.{length, getD, drop, drop-of-length-le}
 use lib.Seq.{sets}
 use borrow.Author.Tests.{lt-ltb, le-ltb}
 use Rattle.edition.specs.Limits.{linkWidth}
+use Rattle.rows.specs.Count.{rowsTo}
 use Rattle.rows.specs.Records.{withRecord, firstRecords, pastRecords, recordIn}
 use Rattle.rows.proofs.Put as put
 use Rattle.network.specs.declared.Link.{Link}
@@ -79,3 +80,27 @@ unfolding pastLinks pastRecords
 past-end row m h =
     drop-of-length-le row {i = length row} (omega arith)
     ∙ sym (drop-of-length-le row {i = m * linkWidth} (omega arith))
+
+-- the records of links one after the other
+module _ (f : ℕ → Link) where
+  sized : (e : ℕ) → length (linkRow (f e)) ≡ linkWidth
+  sized e = link-sized (f e)
+
+  pub rows-count : (m : ℕ) → linksIn (rowsTo (λ e. linkRow (f e)) m) ≡ m
+  rows-count m = put.rows-exact linkWidth (λ e. linkRow (f e)) m (λ e l. sized e) (omega arith)
+
+  pub rows-link : (m e : ℕ) → e < m → linkIn (rowsTo (λ e. linkRow (f e)) m) e ≡ f e
+  unfolding linkIn
+  rows-link m e l =
+      ap (λ (r : List ℕ). linkFrom (recordIn linkWidth r e)) (sym (append-nil (rowsTo (λ e. linkRow (f e)) m)))
+      ∙ (ap linkFrom (put.rows-record linkWidth (λ e. linkRow (f e)) m (λ e l. sized e) [] (omega arith) e l) ∙ link-from (f e))
+
+  pub rows-first : (m : ℕ) (more : List ℕ) → firstRecords linkWidth m (rowsTo (λ e. linkRow (f e)) m ++ more) ≡ rowsTo (λ e. linkRow (f e)) m
+  rows-first m more = put.rows-first linkWidth (λ e. linkRow (f e)) m (λ e l. sized e) more
+
+  -- the next record, behind those that are put already
+  pub put-next : (k : ℕ) (before : List ℕ) → k < linksIn before → (l : Link) → l ≡ f k → putLink (rowsTo (λ e. linkRow (f e)) k ++ pastLinks k before) k l ≡ rowsTo (λ e. linkRow (f e)) (k + 1) ++ pastLinks (k + 1) before
+  unfolding putLink pastLinks
+  put-next k before h l q =
+      ap (λ (l : Link). withRecord linkWidth (rowsTo (λ e. linkRow (f e)) k ++ pastRecords linkWidth k before) k (linkRow l)) q
+      ∙ put.put-next linkWidth (λ e. linkRow (f e)) k sized before h

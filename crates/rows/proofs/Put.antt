@@ -3,11 +3,12 @@ use mathlib.Core.Path.{_≡_, refl, sym, subst, ap, _∙_}
 use mathlib.Core.Bool.{Bool, true, false, true≢false}
 use mathlib.Core.List.{List, [], _∷_, _++_}
 use Prim.Native.Nat.{ℕ, zero, suc, _+_, _*_, _-_, _/_, _<_, _≤_}
-use native.Mathlib.Nat.{not-suc-le-zero, suc-mul, mul-le-mul-right, div-mul-le-self, le-div-iff-mul-le}
+use native.Mathlib.Nat.{not-suc-le-zero, suc-mul, mul-le-mul-right, div-mul-le-self, le-div-iff-mul-le, mul-div-cancel}
+use native.Mathlib.Numerals.{add-one}
 use native.Mathlib.Omega.{arith}
 use lib.Dec.{eqb, ltb}
 use lib.ListN.{length, getD, set, take, drop, length-set, length-drop, length-append, take-append-drop}
-use lib.Seq.{sets, length-sets, length-take-le, getD-set-same, getD-set-other, set-comm, getD-take, getD-drop, ext-getD, take-add, take-all, drop-at}
+use lib.Seq.{sets, length-sets, length-take-le, getD-set-same, getD-set-other, set-comm, getD-take, getD-drop, ext-getD, take-add, take-all, take-at, drop-at, drop-drop, sets-eq}
 use borrow.Author.Tests.{ltb-true, ltb-false, lt-ltb, le-ltb}
 use Rattle.rows.specs.Count.{rowsTo}
 use Rattle.rows.specs.Records.{recordsIn, recordIn, withRecord, firstRecords, pastRecords}
@@ -178,9 +179,51 @@ module _ (w : ℕ) (f : ℕ → List ℕ) (n : ℕ) (sized : (x : ℕ) → x < n
       le-div-iff-mul-le {k = w} {x = n} {y = length (rowsTo f n ++ more)} pos .1
       (omega (arith, length-append (rowsTo f n) more, rows-length-in f w n sized))
 
+  pub rows-first : firstRecords w n (rowsTo f n ++ more) ≡ rowsTo f n
+  unfolding firstRecords
+  rows-first = take-at (rowsTo f n) more (n * w) (rows-length-in f w n sized)
+
   pub rows-record : zero < w → (x : ℕ) → x < n → recordIn w (rowsTo f n ++ more) x ≡ f x
   rows-record pos x l =
       record-is w (rowsTo f n ++ more) x (omega (arith, l, rows-count pos)) ∙ rows-at-in f w n sized more x l
+
+-- as many records as were laid
+pub rows-exact : (w : ℕ) (f : ℕ → List ℕ) (n : ℕ) → ((x : ℕ) → x < n → length (f x) ≡ w) → zero < w → recordsIn w (rowsTo f n) ≡ n
+rows-exact w f n sized pos = ap (λ (k : ℕ). k / w) (rows-length-in f w n sized) ∙ mul-div-cancel n pos
+
+-- the next record, behind those that are laid already
+pub put-next : (w : ℕ) (f : ℕ → List ℕ) (k : ℕ) → ((x : ℕ) → length (f x) ≡ w) → (before : List ℕ) → k < recordsIn w before → withRecord w (rowsTo f k ++ pastRecords w k before) k (f k) ≡ rowsTo f (k + 1) ++ pastRecords w (k + 1) before
+unfolding pastRecords rowsTo
+put-next w f k sized before h =
+    put-is w (laid ++ old) k (f k) (rw long h)
+    ∙ (sets-eq (f k) (laid ++ old) (k * w) (omega (arith, long, sized k, room))
+    ∙ (λ i. take-at laid old (k * w) front i ++ f k ++ behind i)
+    ∙ rw (add-one k))
+  where
+    laid : List ℕ
+    laid = rowsTo f k
+
+    old : List ℕ
+    old = drop (k * w) before
+
+    front : length laid ≡ k * w
+    front = rows-length-in f w k (λ x l. sized x)
+
+    room : k * w + w ≤ length before
+    room = record-fits w before k h
+
+    long : length (laid ++ old) ≡ length before
+    long = omega (arith, length-append laid old, front, length-drop (k * w) before, room)
+
+    next : (k + 1) * w ≡ k * w + w
+    next = rw (add-one k) (suc-mul k w)
+
+    behind : drop (k * w + length (f k)) (laid ++ old) ≡ drop ((k + 1) * w) before
+    behind =
+        sym (drop-drop (length (f k)) (k * w) (laid ++ old))
+        ∙ (ap (drop (length (f k))) (drop-at laid old (k * w) front)
+        ∙ (drop-drop (length (f k)) (k * w) before
+        ∙ ap (λ (n : ℕ). drop n before) (ap (λ (n : ℕ). k * w + n) (sized k) ∙ sym next)))
 
 -- stores in places that lie apart may be made in either order
 set-sets : (b l : List ℕ) (i j x : ℕ) → (b′ : Bool) → ltb i j ≡ b′ → (b′ ≡ false → j + length b ≤ i) → set (sets l j b) i x ≡ sets (set l i x) j b

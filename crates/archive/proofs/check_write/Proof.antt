@@ -1,43 +1,45 @@
 -- `archive::check_write` meets its contract. Assumes nothing.
-use native.Mathlib.Omega.{arith}
-use Rattle.archive.proofs.Files.{numbers-small, network-refuses, room-decides}
+use Rattle.sound.proofs.Handing.{handed-first}
+use Rattle.archive.specs.Writer.{writeVerdict}
+use Rattle.archive.proofs.Files.{sizes-small, room-judged}
 use borrow.Author.Needs.{needs}
 use Rattle.archive.proofs.check_write.Statement.{statement}
 use Rattle.archive.proofs.check_write.Tie as tie
 
-verdict-requires : tie.Need-verdict-requires
-verdict-requires c κs = search needs
+check-network-requires : tie.Need-check-network-requires
+check-network-requires c κs = search needs
+
+enum-known-said : tie.Need-enum-known-said
+enum-known-said c = search needs
 
 enum-told : tie.Need-enum-told
 enum-told c = search needs
 
-enum-told-2 : tie.Need-enum-told-2
-enum-told-2 c = search needs
+handed-up-requires : tie.Need-handed-up-requires
+handed-up-requires c κs = search needs
 
 returns : tie.Need-returns
-returns c = network-refuses _ _ _ _ _ (c .before .before .verdict .ensures) _ (c .enum-told2 .given .1)
-
-links-in-requires : tie.Need-links-in-requires
-links-in-requires c κs = search needs
+unfolding writeVerdict
+returns c = handed-first _ _ (c .before .before .before .check-network .ensures) _ (c .before .enum-told .given .1) _ _ (c .handed-up .ensures)
 
 file-length-requires : tie.Need-file-length-requires
-file-length-requires c κs = (numbers-small _ _ _ (c .before .before .before .before .before .before .before .args .file .now) _ (c .before .before .before .verdict .ensures) (c .before .enum-told .given .1) .0, omega (arith, numbers-small _ _ _ (c .before .before .before .before .before .before .before .args .file .now) _ (c .before .before .before .verdict .ensures) (c .before .enum-told .given .1) .1, c .links-in .ensures))
+file-length-requires c κs = sizes-small _ _ _ (c .before .before .before .before .before .before .before .args .file .now) _ _ (c .before .before .before .check-network .ensures) (c .before .said .given .1)
 
 refuse-if-requires : tie.Need-refuse-if-requires
 refuse-if-requires c κs = search needs
 
 returns-2 : tie.Need-returns-2
-returns-2 c = room-decides _ _ _ _ _ (c .before .before .before .before .before .verdict .ensures) (c .before .before .before .enum-told .given .1) _ (c .before .before .links-in .ensures) _ (c .before .file-length .ensures) _ (c .refuse-if .ensures)
+returns-2 c = room-judged _ _ _ _ _ _ (c .before .before .before .before .before .check-network .ensures) (c .before .before .before .said .given .1) _ (c .before .file-length .ensures) _ (c .refuse-if .ensures)
 
 pub check-write-spec : {M : Type 1} → statement M
 check-write-spec =
     tie.close
     (tie.spec
-    verdict-requires
+    check-network-requires
+    enum-known-said
     enum-told
-    enum-told-2
+    handed-up-requires
     returns
-    links-in-requires
     file-length-requires
     refuse-if-requires
     returns-2)

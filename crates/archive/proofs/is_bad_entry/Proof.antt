@@ -11,8 +11,8 @@ slice-aggregate-put-entry c = search needs
 parent-of-requires : tie.Need-parent-of-requires
 parent-of-requires c κs = search needs
 
-entry-in-requires : tie.Need-entry-in-requires
-entry-in-requires c κs = omega (arith, c .before .before .before .before .before .pre .1)
+entry-at-requires : tie.Need-entry-at-requires
+entry-at-requires c κs = search needs
 
 put-entry-requires : tie.Need-put-entry-requires
 put-entry-requires c κs = search needs
@@ -27,7 +27,7 @@ is-same-requires : tie.Need-is-same-requires
 is-same-requires c κs = omega (arith, c .before .before .before .before .before .before .before .before .before .before .pre .2, c .before .entry-place .ensures, own-length _ _ _ (c .before .before .before .put-entry .ensures))
 
 returns : tie.Need-returns
-returns c = bad-is _ _ _ (c .before .before .before .before .put-entry .ensures) _ _ _ _ _ (c .before .before .before .before .before .before .parent-of .ensures) (c .before .before .before .before .before .entry-in .ensures) _ (c .before .before .entry-place .ensures) _ (c .is-same .ensures)
+returns c = bad-is _ _ _ (c .before .before .before .before .put-entry .ensures) _ _ _ _ _ (c .before .before .before .before .before .before .parent-of .ensures) (c .before .before .before .before .before .entry-at .ensures) _ (c .before .before .entry-place .ensures) _ (c .is-same .ensures)
 
 pub is-bad-entry-spec : {M : Type 1} → statement M
 is-bad-entry-spec =
@@ -35,7 +35,7 @@ is-bad-entry-spec =
     (tie.spec
     slice-aggregate-put-entry
     parent-of-requires
-    entry-in-requires
+    entry-at-requires
     put-entry-requires
     entry-place-requires
     slice-aggregate-is-same

@@ -37,8 +37,8 @@ returns-2 c = link-put _ _ _ _ _ _ _ _ _ (c .before .before .before .before .bef
 parent-of-requires : tie.Need-parent-of-requires
 parent-of-requires c κs = search needs
 
-entry-in-requires : tie.Need-entry-in-requires
-entry-in-requires c κs = search needs
+entry-at-requires : tie.Need-entry-at-requires
+entry-at-requires c κs = search needs
 
 put-entry-requires : tie.Need-put-entry-requires
 put-entry-requires c κs = search needs
@@ -47,7 +47,7 @@ same-length-3 : tie.Need-same-length-3
 same-length-3 c = search needs
 
 returns-3 : tie.Need-returns-3
-returns-3 c = entry-put _ _ _ _ _ _ _ _ _ (c .before .before .before .before .before .before .before .if1 .left) (c .before .before .before .before .before .before .if2 .left) _ (c .before .before .before .before .parent-of .ensures) _ (c .before .before .before .entry-in .ensures) (c .before .before .put-entry .ensures)
+returns-3 c = entry-put _ _ _ _ _ _ _ _ _ (c .before .before .before .before .before .before .before .if1 .left) (c .before .before .before .before .before .before .if2 .left) _ (c .before .before .before .before .parent-of .ensures) _ (c .before .before .before .entry-at .ensures) (c .before .before .put-entry .ensures)
 
 pub put-record-spec : {M : Type 1} → statement M
 put-record-spec =
@@ -64,7 +64,7 @@ put-record-spec =
     same-length-2
     returns-2
     parent-of-requires
-    entry-in-requires
+    entry-at-requires
     put-entry-requires
     same-length-3
     returns-3)

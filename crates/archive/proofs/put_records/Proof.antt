@@ -1,14 +1,14 @@
 -- `archive::put_records` meets its contract. Assumes nothing.
 use native.Mathlib.Omega.{arith}
 use Prim.Native.Nat.{_-_}
-use Rattle.archive.specs.Work.{recordIn}
+use Rattle.archive.specs.Work.{recordBy}
 use Rattle.archive.proofs.Laying.{record-size, Laying, laying-start, laying-length, laying-place, laying-more, laying-end}
 use borrow.Author.Needs.{needs}
 use Rattle.archive.proofs.put_records.Statement.{statement}
 use Rattle.archive.proofs.put_records.Tie as tie
 
 abbrev Inv-loop : tie.InvT-loop
-Inv-loop links parents search entries part block₀ size r₀ block r = Laying (recordIn links parents search entries (part .kind)) part block₀ r block
+Inv-loop links parents search entries part block₀ size r₀ block r = Laying (recordBy links parents search entries (part .kind)) part block₀ r block
 
 abbrev μ-loop : tie.MeasureT-loop
 μ-loop links parents search entries part block₀ size r₀ block r = part .used - r
@@ -29,7 +29,7 @@ add-put-record-2 : tie.Need-add-put-record-2 Inv-loop μ-loop
 add-put-record-2 c = omega (arith, laying-place _ _ _ (c .before .before .before .before .before .before .before .before .before .before .pre .0) (record-size _ _ _ _ _) _ _ (c .before .before .before .before .loop .inv) (c .before .before .if1 .taken) _ (c .before .before .before .before .before .held-bytes .ensures))
 
 put-record-requires : tie.Need-put-record-requires Inv-loop μ-loop
-put-record-requires c κs = (omega (arith, c .before .before .before .before .before .before .before .before .before .before .pre .0 .low, c .before .before .if1 .taken), c .before .before .before .before .before .before .before .before .before .before .pre .1, c .before .before .before .before .before .before .before .before .before .before .pre .2)
+put-record-requires c κs = (c .before .before .before .before .before .before .before .before .before .before .pre .1, c .before .before .before .before .before .before .before .before .before .before .pre .2)
 
 add-r : tie.Need-add-r Inv-loop μ-loop
 add-r c = omega (arith, c .before .before .before .before .before .before .before .before .before .before .before .before .before .pre .0 .low, c .before .before .before .before .before .if1 .taken)
