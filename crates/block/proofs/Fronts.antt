@@ -9,10 +9,11 @@ use lib.ListN.{length, getD, take}
 use borrow.Author.Tests.{eq-eqb, ne-eqb, eqb-true, eqb-false}
 use Rattle.edition.specs.Stored.{editionOne, blockBytes}
 use Rattle.rows.specs.Lists.{same}
-use Rattle.block.specs.Bytes.{bytesOf, numberIn}
+use Rattle.numbers.specs.Bytes.{bytesOf, numberIn}
+use Rattle.numbers.proofs.Getting.{number-two}
 use Rattle.block.specs.Block.{front}
 use Rattle.block.specs.Work.{badFront}
-use Rattle.block.proofs.Summing.{number-two, first-six}
+use Rattle.block.proofs.Summing.{first-six}
 
 -- two bytes are those of a number exactly where they stand for it
 two-bytes : (x y v : ℕ) → x < 256 → y < 256 → v < 65536 → (eqb x (v / 256 % 256) && eqb y (v % 256)) ≡ eqb (x * 256 + y) v

@@ -14,7 +14,7 @@ use Rattle.edition.specs.Refusals.{refused}
 use Rattle.edition.specs.Stored.{blockBytes, frontBytes, payloadBytes}
 use Rattle.rows.specs.First.{refuseIf, firstly}
 use Rattle.rows.proofs.Refusing.{head-taken, head-passes, only-one, if-taken, if-passes}
-use Rattle.block.specs.Bytes.{numberIn}
+use Rattle.numbers.specs.Bytes.{numberIn}
 use Rattle.block.specs.Block.{checkOf, badCheck, badBlock, blockVerdict, payload, payloadPlace}
 
 module _ (kind number used : ℕ) (b : List ℕ) where

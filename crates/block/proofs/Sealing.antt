@@ -2,31 +2,21 @@
 use mathlib.Core.Path.{_≡_, sym, ap, ap₂, _∙_}
 use mathlib.Core.Bool.{Bool, true, false}
 use mathlib.Core.List.{List, _∷_, _++_, append-nil}
-use Prim.Native.Nat.{ℕ, _+_, _*_, _-_, _/_, _%_, _<_, _≤_}
+use Prim.Native.Nat.{ℕ, _+_, _*_, _-_, _<_, _≤_}
 use native.Mathlib.Numerals.{add-one}
 use native.Mathlib.Omega.{arith}
 use lib.ListN.{length, getD, set, take, drop, replicate, length-drop, length-replicate, getD-replicate, drop-of-length-le}
-use lib.Seq.{length-take-le, paste, sets-eq, length-sets, paste-zero, paste-suc, length-paste, take-all, drop-cons, take-add}
+use lib.Seq.{length-take-le, paste, sets, sets-eq, length-sets, paste-zero, paste-suc, length-paste, take-all, drop-cons, take-add}
 use borrow.Author.Tests.{eq-eqb, ne-eqb}
 use Rattle.edition.specs.Stored.{editionOne, blockBytes, frontBytes, payloadBytes}
-use Rattle.block.specs.Bytes.{bytesOf, checksum}
+use Rattle.numbers.specs.Bytes.{bytesOf}
+use Rattle.block.specs.Bytes.{checksum}
 use Rattle.block.specs.Block.{recordBytes, front, checkOf, filled, block, unheard, sealed}
-use Rattle.block.specs.Work.{withNumber, withFront, cleared}
+use Rattle.block.specs.Work.{withFront, cleared}
 use Rattle.block.proofs.Sizes.{size-fits}
 
--- two bytes are written
-pub number-put : (b : List ℕ) (at v : ℕ) → v < 65536 → set (set b at (v / 256)) (at + 1) (v % 256) ≡ withNumber b at v
-unfolding withNumber bytesOf
-number-put b at v l =
-    let q : v / 256 ≡ v / 256 % 256 = omega arith in
-    rw (add-one at, ← q)
-
-pub number-length : (b : List ℕ) (at v : ℕ) → length (withNumber b at v) ≡ length b
-unfolding withNumber
-number-length b at v = length-sets b at (bytesOf 2 v)
-
-pub front-put : (kind number used : ℕ) (b r s : List ℕ) → r ≡ withNumber (set (set b 0 kind) 1 editionOne) 2 number → s ≡ withNumber r 4 used → s ≡ withFront kind number used b
-unfolding withNumber withFront front bytesOf
+pub front-put : (kind number used : ℕ) (b r s : List ℕ) → r ≡ sets (set (set b 0 kind) 1 editionOne) 2 (bytesOf 2 number) → s ≡ sets r 4 (bytesOf 2 used) → s ≡ withFront kind number used b
+unfolding withFront front bytesOf
 front-put kind number used b r s p q = q ∙ rw p
 
 pub front-length : (kind number used : ℕ) (b : List ℕ) → length (withFront kind number used b) ≡ length b
@@ -125,10 +115,10 @@ module _ (kind number used : ℕ) (b : List ℕ) where
             ∙ (ap (λ (x : List ℕ). take frontBytes x ++ take (used * w) (drop frontBytes x) ++ replicate (payloadBytes - used * w) 0) fronted
             ∙ ap (λ (x : List ℕ). front kind number used ++ getD b 6 0 ∷ getD b 7 0 ∷ x) fills))))
 
-        pub seal-is : (c : ℕ) → c ≡ checkOf s → (z : List ℕ) → z ≡ withNumber s 6 c → z ≡ sealed kind number used b
-        unfolding withNumber front bytesOf checkOf block records
+        pub seal-is : (c : ℕ) → c ≡ checkOf s → (z : List ℕ) → z ≡ sets s 6 (bytesOf 2 c) → z ≡ sealed kind number used b
+        unfolding front bytesOf checkOf block records
         seal-is c i z j =
             let check : c ≡ checksum (front kind number used ++ 0 ∷ 0 ∷ filled records) = i ∙ ap checkOf emptied in
             j
-            ∙ (ap₂ (λ (x : List ℕ) (v : ℕ). withNumber x 6 v) emptied check
+            ∙ (ap₂ (λ (x : List ℕ) (v : ℕ). sets x 6 (bytesOf 2 v)) emptied check
             ∙ sealed-is l heard)

@@ -2,8 +2,7 @@
 use mathlib.Core.Path.{_≡_, refl, sym, ap, subst, _∙_}
 use mathlib.Core.Bool.{Bool, true, false}
 use mathlib.Core.List.{List, [], _∷_, _++_}
-use Prim.Native.Nat.{ℕ, _+_, _*_, _-_, _/_, _<_, _≤_}
-use native.Mathlib.Nat.{add-zero}
+use Prim.Native.Nat.{ℕ, _+_, _-_, _/_, _<_, _≤_}
 use native.Mathlib.Numerals.{add-one}
 use native.Mathlib.Omega.{arith}
 use lib.Dec.{eqb, ltb}
@@ -11,14 +10,11 @@ use lib.ListN.{length, getD, take, drop, length-append, length-drop, List·getD-
 use lib.Seq.{drop-cons, length-take-le, getD-take, getD-drop}
 use borrow.Author.Tests.{eqb-true, eqb-false, ltb-true, ltb-false}
 use Rattle.edition.specs.Stored.{blockBytes, frontBytes}
-use Rattle.block.specs.Bytes.{numberIn, wordMost, onesAdd, onesSum, checksum}
+use Rattle.numbers.specs.Bytes.{numberIn, wordMost}
+use Rattle.numbers.proofs.Getting.{number-two}
+use Rattle.block.specs.Bytes.{onesAdd, onesSum, checksum}
 use Rattle.block.specs.Block.{checkOf}
 use Rattle.block.specs.Work.{blockWords, blanked, wordOf}
-
--- a number of two bytes
-pub number-two : (s : List ℕ) (i : ℕ) → numberIn s i 2 ≡ getD s i 0 * 256 + getD s (i + 1) 0
-unfolding numberIn
-number-two s i = omega (arith, ap (λ (j : ℕ). getD s j 0) (add-zero i))
 
 module _ (b : List ℕ) (l : length b ≡ blockBytes) where
   -- the first six bytes, one by one

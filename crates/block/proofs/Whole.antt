@@ -18,9 +18,10 @@ use Rattle.rows.proofs.Best.{some-none, none-some}
 use Rattle.rows.proofs.Listed.{same-equal, equal-same}
 use Rattle.rows.proofs.Refusing.{head-taken, rest-taken, both-taken, none-left, if-taken, if-passes}
 use Rattle.rows.proofs.Tests.{or-false, or3-false}
-use Rattle.block.specs.Bytes.{bytesOf, numberIn, checksum, dirty}
+use Rattle.numbers.specs.Bytes.{bytesOf, numberIn}
+use Rattle.numbers.proofs.Getting.{number-two}
+use Rattle.block.specs.Bytes.{checksum, dirty}
 use Rattle.block.specs.Block.{recordBytes, front, checkOf, filled, block, badCheck, dirtyEntry, badFiller, unheard, badBlock, blockVerdict, sealed}
-use Rattle.block.proofs.Summing.{number-two}
 use Rattle.block.proofs.Sizes.{heard-size}
 use Rattle.block.proofs.Judging.{taken-length}
 use Rattle.block.proofs.Sealing.{sealed-is}

@@ -11,7 +11,8 @@ use Rattle.edition.specs.Stored.{editionOne, blockBytes, frontBytes, payloadByt
 use Rattle.rows.specs.Count.{someTo}
 use Rattle.rows.specs.First.{refuseIf, firstly}
 use Rattle.rows.specs.Lists.{same}
-use Rattle.block.specs.Bytes.{bytesOf, numberIn, checksum, dirty}
+use Rattle.numbers.specs.Bytes.{bytesOf, numberIn}
+use Rattle.block.specs.Bytes.{checksum, dirty}
 
 -- How many records a block of a kind holds: none where the kind is none of the three.
 unfoldable pub capacity : ℕ → ℕ

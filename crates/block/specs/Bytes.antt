@@ -1,24 +1,11 @@
--- Numbers in bytes, and the checksum of RFC 1071. Assumes nothing.
+-- The checksum of RFC 1071, and bytes that are not 0. Assumes nothing.
 use mathlib.Core.Bool.{Bool, cond, not}
-use mathlib.Core.List.{List, [], _∷_, _++_}
-use Prim.Native.Nat.{ℕ, zero, suc, _+_, _*_, _-_, _/_, _%_}
+use mathlib.Core.List.{List}
+use Prim.Native.Nat.{ℕ, zero, suc, _+_, _-_, _/_}
 use lib.Dec.{eqb, ltb}
 use lib.ListN.{length, getD}
 use Rattle.rows.specs.Count.{someTo}
-
--- The number v in k bytes, big-endian.
-unfoldable pub bytesOf : ℕ → ℕ → List ℕ
-bytesOf zero v = []
-bytesOf (suc k) v = bytesOf k (v / 256) ++ (v % 256 ∷ [])
-
--- The number that the k bytes from place i on stand for.
-unfoldable pub numberIn : List ℕ → ℕ → ℕ → ℕ
-numberIn s i zero = 0
-numberIn s i (suc k) = numberIn s i k * 256 + getD s (i + k) 0
-
--- The largest 16-bit number.
-abbrev pub wordMost : ℕ
-wordMost = 65535
+use Rattle.numbers.specs.Bytes.{numberIn, wordMost}
 
 -- RFC 1071: the sum of two 16-bit words, the carry added in again.
 unfoldable pub onesAdd : ℕ → ℕ → ℕ

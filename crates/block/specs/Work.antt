@@ -7,7 +7,7 @@ use lib.ListN.{take, drop, replicate}
 use lib.Seq.{paste, sets}
 use Rattle.edition.specs.Stored.{blockBytes, frontBytes}
 use Rattle.rows.specs.Lists.{same}
-use Rattle.block.specs.Bytes.{bytesOf, numberIn}
+use Rattle.numbers.specs.Bytes.{numberIn}
 use Rattle.block.specs.Block.{front}
 
 -- how many 16-bit words a block has
@@ -25,10 +25,6 @@ wordOf b k = cond (eqb k 3) 0 (numberIn b (k + k) 2)
 -- is the front another than the one asked?
 unfoldable pub badFront : ℕ → ℕ → ℕ → List ℕ → Bool
 badFront kind number used b = not (same (take 6 b) (front kind number used))
-
--- a row with a 16-bit number at a place
-unfoldable pub withNumber : List ℕ → ℕ → ℕ → List ℕ
-withNumber b at v = sets b at (bytesOf 2 v)
 
 -- a row with a front at its beginning
 unfoldable pub withFront : ℕ → ℕ → ℕ → List ℕ → List ℕ

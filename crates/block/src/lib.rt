@@ -5,9 +5,9 @@ ghost use Prim.Native.Nat.{_+_, _*_, _<_, _≤_};
 ghost use lib.ListN.{length};
 ghost use Rattle.edition.specs.Stored.{blockBytes, frontBytes, entryBytes};
 ghost use Rattle.rows.specs.Count.{someTo};
-ghost use Rattle.block.specs.Bytes.{numberIn, onesAdd, dirty};
+ghost use Rattle.block.specs.Bytes.{onesAdd, dirty};
 ghost use Rattle.block.specs.Block.{capacity, recordBytes, checkOf, dirtyEntry, badFiller, unheard, badBlock, blockVerdict, payload as payloadOf, payloadPlace, sealed};
-ghost use Rattle.block.specs.Work.{blockWords, wordOf, badFront, withNumber, withFront, cleared};
+ghost use Rattle.block.specs.Work.{blockWords, wordOf, badFront, withFront, cleared};
 use edition::Edition;
 use edition::Refusal;
 use edition::Verdict;
@@ -42,23 +42,15 @@ fn ones_add(a: u16, b: u16) -> u16
     sum as u16
 }
 
-// The 16-bit number at a place.
-fn number_at(b: &[u8], at: usize) -> u16
-    requires { ⌜ at + 1 < length (now b) ⌝ }
-    ensures { λ r. ⌜ r ≡ numberIn (now (b .entry)) at 2 ⌝ }
-{
-    b[at] as u16 * 256 + b[at + 1] as u16
-}
-
 // Word k of a block; the word of the check counts as 0.
 fn word_at(b: &[u8], k: usize) -> u16
-    requires { ⌜ (length (now b) ≡ blockBytes) × (k < blockWords) ⌝ }
+    requires { ⌜ k < blockWords ⌝ }
     ensures { λ r. ⌜ r ≡ wordOf (now (b .entry)) k ⌝ }
 {
     if k == CHECK_WORD {
         return 0;
     }
-    number_at(b, k + k)
+    numbers::two_at(b, k + k)
 }
 
 // The check of a block, whatever stands in its place.
@@ -189,10 +181,10 @@ fn bad_front(kind: u8, number: u16, used: u16, b: &[u8]) -> bool
     if b[1] != Edition::NUMBER {
         return true;
     }
-    if number_at(b, NUMBER_AT) != number {
+    if numbers::two_at(b, NUMBER_AT) != number {
         return true;
     }
-    number_at(b, USED_AT) != used
+    numbers::two_at(b, USED_AT) != used
 }
 
 // Whether a block of the right length is refused by 22.
@@ -219,7 +211,7 @@ pub fn check_block(kind: u8, number: u16, used: u16, b: &[u8]) -> Verdict
             place: 0,
         });
     }
-    if number_at(b, CHECK_AT) != check_of(b) {
+    if numbers::two_at(b, CHECK_AT) != check_of(b) {
         return Verdict::Refused(Refusal {
             why: Why::BadCheck,
             place: number as usize,
@@ -243,15 +235,6 @@ pub fn payload(kind: u8, number: u16, used: u16, b: &[u8]) -> &[u8]
     }
 }
 
-// Writes a 16-bit number at a place.
-fn put_number(b: &mut [u8], at: usize, v: u16)
-    requires { ⌜ at + 1 < length (now b) ⌝ }
-    ensures { λ _. ⌜ now (b .exit) ≡ withNumber (now (b .entry)) at v ⌝ }
-{
-    b[at] = (v / 256) as u8;
-    b[at + 1] = (v % 256) as u8;
-}
-
 // Writes bytes 0 to 5.
 fn put_front(kind: u8, number: u16, used: u16, b: &mut [u8])
     requires { ⌜ length (now b) ≡ blockBytes ⌝ }
@@ -259,8 +242,8 @@ fn put_front(kind: u8, number: u16, used: u16, b: &mut [u8])
 {
     b[0] = kind;
     b[1] = Edition::NUMBER;
-    put_number(b, NUMBER_AT, number);
-    put_number(b, USED_AT, used);
+    numbers::put_number(b, NUMBER_AT, 2, number as u64);
+    numbers::put_number(b, USED_AT, 2, used as u64);
 }
 
 // Writes zeros from a place on.
@@ -294,5 +277,5 @@ pub fn seal(kind: u8, number: u16, used: u16, b: &mut [u8])
         Edition::PAYLOAD_BYTES - size,
     );
     let check = check_of(b);
-    put_number(b, CHECK_AT, check);
+    numbers::put_number(b, CHECK_AT, 2, check as u64);
 }

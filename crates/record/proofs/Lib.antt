@@ -1,2 +1,1 @@
-pub mod Getting
 pub mod Putting

@@ -8,7 +8,7 @@ use lib.Seq.{sets}
 use Rattle.edition.specs.declared.Entry.{Entry}
 use Rattle.edition.specs.declared.Search.{Search}
 use Rattle.network.specs.declared.Link.{Link}
-use Rattle.block.specs.Bytes.{bytesOf}
+use Rattle.numbers.specs.Bytes.{bytesOf}
 
 -- Header: n, m, root, depth, 2 bytes each.
 unfoldable pub headerRecord : ℕ → ℕ → Search → List ℕ

@@ -1,41 +1,27 @@
-// Numbers and records as bytes, big-endian.
+// Records as bytes.
 ghost use mathlib.Core.Path.{_≡_};
 ghost use mathlib.Core.List.{_++_};
 ghost use Prim.Native.Nat.{_+_, _≤_};
 ghost use lib.Dec.{leb};
-ghost use lib.ListN.{length, getD};
+ghost use lib.ListN.{length};
 ghost use lib.Seq.{sets};
 ghost use Rattle.edition.specs.Stored.{headerBytes, linkBytes, entryBytes};
-ghost use Rattle.block.specs.Bytes.{bytesOf, numberIn};
+ghost use Rattle.numbers.specs.Bytes.{bytesOf};
 ghost use Rattle.record.specs.Record.{headerRecord, linkRecord, entryRecord, recordPut};
 use edition::Edition;
 use edition::Entry;
 use edition::Search;
 use network::Link;
 
-// Puts the number v in k bytes from a place on, its lowest byte last.
-fn put_number(bytes: &mut [u8], at: usize, k: usize, v: u64)
-    requires { ⌜ at + k ≤ length (now bytes) ⌝ }
-    ensures { λ _. ⌜ now (bytes .exit) ≡ sets (now (bytes .entry)) at (bytesOf k v) ⌝ }
-{
-    let mut left = k;
-    let mut rest = v;
-    while 0 < left {
-        left -= 1;
-        bytes[at + left] = (rest % 256) as u8;
-        rest = rest / 256;
-    }
-}
-
 // Puts four numbers of two bytes each.
 fn put_four(bytes: &mut [u8], at: usize, a: u64, b: u64, c: u64, d: u64)
     requires { ⌜ at + 8 ≤ length (now bytes) ⌝ }
     ensures { λ _. ⌜ now (bytes .exit) ≡ sets (now (bytes .entry)) at (bytesOf 2 a ++ bytesOf 2 b ++ bytesOf 2 c ++ bytesOf 2 d) ⌝ }
 {
-    put_number(bytes, at, 2, a);
-    put_number(bytes, at + 2, 2, b);
-    put_number(bytes, at + 4, 2, c);
-    put_number(bytes, at + 6, 2, d);
+    numbers::put_number(bytes, at, 2, a);
+    numbers::put_number(bytes, at + 2, 2, b);
+    numbers::put_number(bytes, at + 4, 2, c);
+    numbers::put_number(bytes, at + 6, 2, d);
 }
 
 // Puts a number of two bytes and two of one byte.
@@ -43,9 +29,9 @@ fn put_front(bytes: &mut [u8], at: usize, a: u64, b: u64, c: u64)
     requires { ⌜ at + 4 ≤ length (now bytes) ⌝ }
     ensures { λ _. ⌜ now (bytes .exit) ≡ sets (now (bytes .entry)) at (bytesOf 2 a ++ bytesOf 1 b ++ bytesOf 1 c) ⌝ }
 {
-    put_number(bytes, at, 2, a);
-    put_number(bytes, at + 2, 1, b);
-    put_number(bytes, at + 3, 1, c);
+    numbers::put_number(bytes, at, 2, a);
+    numbers::put_number(bytes, at + 2, 1, b);
+    numbers::put_number(bytes, at + 3, 1, c);
 }
 
 // Puts a number of eight bytes and two of four.
@@ -53,9 +39,9 @@ fn put_costs(bytes: &mut [u8], at: usize, a: u64, b: u64, c: u64)
     requires { ⌜ at + 16 ≤ length (now bytes) ⌝ }
     ensures { λ _. ⌜ now (bytes .exit) ≡ sets (now (bytes .entry)) at (bytesOf 8 a ++ bytesOf 4 b ++ bytesOf 4 c) ⌝ }
 {
-    put_number(bytes, at, 8, a);
-    put_number(bytes, at + 8, 4, b);
-    put_number(bytes, at + 12, 4, c);
+    numbers::put_number(bytes, at, 8, a);
+    numbers::put_number(bytes, at + 8, 4, b);
+    numbers::put_number(bytes, at + 12, 4, c);
 }
 
 // Whether a record of so many bytes fits from a place on.
@@ -115,21 +101,4 @@ pub fn put_entry(bytes: &mut [u8], at: usize, parent: u16, entry: Entry)
     put_front(bytes, at, parent as u64, entry.state, 0);
     put_four(bytes, at + 4, sum.link, incr.link, max.link, 0);
     put_costs(bytes, at + 12, sum.cost, incr.cost, max.cost);
-}
-
-// The byte at place i; 0 past the end.
-fn byte_at(bytes: &[u8], i: usize) -> u8
-    ensures { λ r. ⌜ r ≡ getD (now (bytes .entry)) i 0 ⌝ }
-{
-    if i < bytes.len() { bytes[i] } else { 0 }
-}
-
-// The number in the two bytes from a place on; bytes past the end count as 0.
-pub fn two_at(bytes: &[u8], at: usize) -> u16
-    ensures { λ r. ⌜ r ≡ numberIn (now (bytes .entry)) at 2 ⌝ }
-{
-    if bytes.len() <= at {
-        return 0;
-    }
-    byte_at(bytes, at) as u16 * 256 + byte_at(bytes, at + 1) as u16
 }

@@ -8,7 +8,7 @@ use lib.Seq.{drop-length}
 use Rattle.rows.specs.Count.{rowsTo, rowWith}
 use Rattle.rows.proofs.Filling.{Filled, filled-end}
 use Rattle.rows.proofs.Records.{rows-length}
-use Rattle.record.proofs.Getting.{two-past}
+use Rattle.numbers.proofs.Getting.{two-past}
 use Rattle.words.specs.Words.{wordIn, wordsIn}
 
 -- a word past the end

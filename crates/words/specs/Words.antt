@@ -2,7 +2,7 @@
 use mathlib.Core.List.{List, [], _∷_}
 use Prim.Native.Nat.{ℕ, _*_}
 use Rattle.rows.specs.Count.{rowsTo}
-use Rattle.block.specs.Bytes.{numberIn}
+use Rattle.numbers.specs.Bytes.{numberIn}
 use Rattle.words.specs.declared.Head.{Head}
 
 -- Word i of bytes, the high byte first; bytes past the end count as 0.

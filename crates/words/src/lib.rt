@@ -23,7 +23,7 @@ pub fn word(bytes: &[u8], i: usize) -> u16
     if bytes.len() / 2 < i {
         return 0;
     }
-    record::two_at(bytes, 2 * i)
+    numbers::two_at(bytes, 2 * i)
 }
 
 // The head that the bytes begin with.

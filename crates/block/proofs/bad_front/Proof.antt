@@ -17,17 +17,17 @@ shared-slice-read-if2 c = search needs
 returns-2 : tie.Need-returns-2
 returns-2 c = bad-edition _ _ _ _ (c .before .before .before .before .before .pre) (λ i. omega (arith, c .before .before .before .before .shared-slice-known .given i)) (search needs) (search needs) (c .before .before .if1 .left) (c .if2 .taken)
 
-number-at-requires : tie.Need-number-at-requires
-number-at-requires c κs = search needs
+two-at-requires : tie.Need-two-at-requires
+two-at-requires c κs = search needs
 
 returns-3 : tie.Need-returns-3
-returns-3 c = bad-number _ _ _ _ (c .before .before .before .before .before .before .before .pre) (λ i. omega (arith, c .before .before .before .before .before .before .shared-slice-known .given i)) (search needs) (search needs) (c .before .before .before .before .if1 .left) (c .before .before .if2 .left) _ (c .before .number-at .ensures) (c .if3 .taken)
+returns-3 c = bad-number _ _ _ _ (c .before .before .before .before .before .before .before .pre) (λ i. omega (arith, c .before .before .before .before .before .before .shared-slice-known .given i)) (search needs) (search needs) (c .before .before .before .before .if1 .left) (c .before .before .if2 .left) _ (c .before .two-at .ensures) (c .if3 .taken)
 
-number-at-requires-2 : tie.Need-number-at-requires-2
-number-at-requires-2 c κs = search needs
+two-at-requires-2 : tie.Need-two-at-requires-2
+two-at-requires-2 c κs = search needs
 
 returns-4 : tie.Need-returns-4
-returns-4 c = bad-used _ _ _ _ (c .before .before .before .before .before .before .before .before .pre) (λ i. omega (arith, c .before .before .before .before .before .before .before .shared-slice-known .given i)) (search needs) (search needs) (c .before .before .before .before .before .if1 .left) (c .before .before .before .if2 .left) _ (c .before .before .number-at .ensures) (c .before .if3 .left) _ (c .number-at2 .ensures)
+returns-4 c = bad-used _ _ _ _ (c .before .before .before .before .before .before .before .before .pre) (λ i. omega (arith, c .before .before .before .before .before .before .before .shared-slice-known .given i)) (search needs) (search needs) (c .before .before .before .before .before .if1 .left) (c .before .before .before .if2 .left) _ (c .before .before .two-at .ensures) (c .before .if3 .left) _ (c .two-at2 .ensures)
 
 pub bad-front-spec : {M : Type 1} → statement M
 bad-front-spec =
@@ -37,7 +37,7 @@ bad-front-spec =
     returns
     shared-slice-read-if2
     returns-2
-    number-at-requires
+    two-at-requires
     returns-3
-    number-at-requires-2
+    two-at-requires-2
     returns-4)

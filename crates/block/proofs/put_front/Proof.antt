@@ -1,7 +1,7 @@
 -- `block::put_front` meets its contract. Assumes nothing.
-use Rattle.block.proofs.Sealing.{number-length, front-put}
+use Rattle.block.proofs.Sealing.{front-put}
 use lib.ListN.{length-set}
-use native.Mathlib.Omega.{arith}
+use lib.Seq.{length-sets}
 use borrow.Author.Needs.{needs}
 use Rattle.block.proofs.put_front.Statement.{statement}
 use Rattle.block.proofs.put_front.Tie as tie
@@ -16,10 +16,10 @@ put-number-requires : tie.Need-put-number-requires
 put-number-requires c κs = search needs
 
 put-number-requires-2 : tie.Need-put-number-requires-2
-put-number-requires-2 c κs = simp (c .before .before .before .put-number .ensures, number-length, length-set) (omega (arith, c .before .before .before .before .before .before .pre))
+put-number-requires-2 c κs = search needs
 
 same-length : tie.Need-same-length
-same-length c = simp (c .before .before .put-number2 .ensures, number-length, c .before .before .before .before .before .before .put-number .ensures, number-length, length-set)
+same-length c = simp (c .before .before .put-number2 .ensures, c .before .before .before .before .before .before .put-number .ensures, length-sets, length-set)
 
 returns : tie.Need-returns
 returns c = front-put _ _ _ _ _ _ (c .before .before .before .before .before .before .put-number .ensures) (c .before .before .put-number2 .ensures)

@@ -37,6 +37,9 @@ clear-requires c κs = seal-room _ _ _ _ (c .before .before .before .before .bef
 check-of-requires : tie.Need-check-of-requires
 check-of-requires c κs = search needs
 
+cast-put-number : tie.Need-cast-put-number
+cast-put-number c = search needs
+
 put-number-requires : tie.Need-put-number-requires
 put-number-requires c κs = search needs
 
@@ -60,6 +63,7 @@ seal-spec =
     sub-clear
     clear-requires
     check-of-requires
+    cast-put-number
     put-number-requires
     same-length
     returns-3)

@@ -9,15 +9,15 @@ returns : tie.Need-returns
 unfolding wordOf
 returns c = rw (eq-eqb _ _ (c .if1 .taken))
 
-add-number-at : tie.Need-add-number-at
-add-number-at c = search needs
+add-two-at : tie.Need-add-two-at
+add-two-at c = search needs
 
-number-at-requires : tie.Need-number-at-requires
-number-at-requires c κs = search needs
+two-at-requires : tie.Need-two-at-requires
+two-at-requires c κs = search needs
 
 returns-2 : tie.Need-returns-2
 unfolding wordOf
-returns-2 c = rw (ne-eqb _ _ (c .before .if1 .left)) (c .number-at .ensures)
+returns-2 c = rw (ne-eqb _ _ (c .before .if1 .left)) (c .two-at .ensures)
 
 pub word-at-spec : {M : Type 1} → statement M
-word-at-spec = tie.close (tie.spec returns add-number-at number-at-requires returns-2)
+word-at-spec = tie.close (tie.spec returns add-two-at two-at-requires returns-2)

@@ -1,5 +1,5 @@
 -- `record::put_four` meets its contract. Assumes nothing.
-use Rattle.record.proofs.Putting.{put-first, put-next}
+use Rattle.numbers.proofs.Putting.{put-first, put-next}
 use native.Mathlib.Omega.{arith}
 use borrow.Author.Needs.{needs}
 use Rattle.record.proofs.put_four.Statement.{statement}

@@ -1,8 +1,9 @@
--- `record::two_at` meets its contract. Assumes nothing.
-use Rattle.record.proofs.Getting.{two-past, two-is}
+-- `numbers::two_at` meets its contract. Assumes nothing.
+use Rattle.numbers.proofs.Getting.{number-two, two-past}
+use native.Mathlib.Omega.{arith}
 use borrow.Author.Needs.{needs}
-use Rattle.record.proofs.two_at.Statement.{statement}
-use Rattle.record.proofs.two_at.Tie as tie
+use Rattle.numbers.proofs.two_at.Statement.{statement}
+use Rattle.numbers.proofs.two_at.Tie as tie
 
 returns : tie.Need-returns
 returns c = two-past (c .before .before .args .bytes .now) _ (c .if1 .taken)
@@ -29,7 +30,7 @@ add-result : tie.Need-add-result
 add-result c = search needs
 
 returns-2 : tie.Need-returns-2
-returns-2 c = two-is _ _ _ _ (c .before .byte-at .ensures) (c .byte-at2 .ensures)
+returns-2 c = rw number-two (omega arith)
 
 pub two-at-spec : {M : Type 1} → statement M
 two-at-spec =

@@ -1,9 +1,9 @@
--- `record::byte_at` meets its contract. Assumes nothing.
+-- `numbers::byte_at` meets its contract. Assumes nothing.
 use mathlib.Core.Path.{sym}
 use lib.ListN.{List·getD-eq-default}
 use borrow.Author.Needs.{needs}
-use Rattle.record.proofs.byte_at.Statement.{statement}
-use Rattle.record.proofs.byte_at.Tie as tie
+use Rattle.numbers.proofs.byte_at.Statement.{statement}
+use Rattle.numbers.proofs.byte_at.Tie as tie
 
 shared-slice-read-result : tie.Need-shared-slice-read-result
 shared-slice-read-result c = search needs

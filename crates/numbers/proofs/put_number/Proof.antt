@@ -1,9 +1,8 @@
--- `record::put_number` meets its contract. Assumes nothing.
-use native.Mathlib.Omega.{arith}
-use Rattle.record.proofs.Putting.{Putting, putting-start, putting-length, putting-room, putting-more, putting-end}
+-- `numbers::put_number` meets its contract. Assumes nothing.
+use Rattle.numbers.proofs.Putting.{Putting, putting-start, putting-length, putting-more, putting-end}
 use borrow.Author.Needs.{needs}
-use Rattle.record.proofs.put_number.Statement.{statement}
-use Rattle.record.proofs.put_number.Tie as tie
+use Rattle.numbers.proofs.put_number.Statement.{statement}
+use Rattle.numbers.proofs.put_number.Tie as tie
 
 abbrev Inv-loop : tie.InvT-loop
 Inv-loop bytes₀ at k v left₀ rest₀ bytes left rest = Putting bytes₀ at k v left rest bytes
@@ -17,20 +16,17 @@ loop-holds c = putting-start _ _ _ _
 sub-left : tie.Need-sub-left Inv-loop μ-loop
 sub-left c = search needs
 
-cast-bytes : tie.Need-cast-bytes Inv-loop μ-loop
-cast-bytes c = search needs
+cast-put-byte : tie.Need-cast-put-byte Inv-loop μ-loop
+cast-put-byte c = search needs
 
-add-bytes : tie.Need-add-bytes Inv-loop μ-loop
-add-bytes c = omega (arith, c .before .before .pre, c .before .loop .inv .low)
-
-slice-write-bytes : tie.Need-slice-write-bytes Inv-loop μ-loop
-slice-write-bytes c = putting-room _ _ _ _ _ _ _ (c .before .loop .inv) (c .before .before .pre) (c .loop-test .taken)
+put-byte-requires : tie.Need-put-byte-requires Inv-loop μ-loop
+put-byte-requires c κs = search needs
 
 loop-less : tie.Need-loop-less Inv-loop μ-loop
 loop-less c = search needs
 
 loop-again : tie.Need-loop-again Inv-loop μ-loop
-loop-again c = putting-more _ _ _ _ _ _ _ (c .before .loop .inv) (c .loop-test .taken)
+loop-again c = putting-more _ _ _ _ _ _ _ (c .before .before .before .before .before .loop .inv) (c .before .before .before .before .loop-test .taken) _ (c .before .before .put-byte .ensures)
 
 same-length : tie.Need-same-length Inv-loop μ-loop
 same-length c = putting-length _ _ _ _ _ _ _ (c .before .loop .inv)
@@ -46,9 +42,8 @@ put-number-spec =
     μ-loop
     loop-holds
     sub-left
-    cast-bytes
-    add-bytes
-    slice-write-bytes
+    cast-put-byte
+    put-byte-requires
     loop-less
     loop-again
     same-length
