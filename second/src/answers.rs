@@ -9,8 +9,9 @@ use crate::map::map;
 use crate::probe::*;
 use crate::reader::{read, Said};
 use crate::refusal::Refusal;
-use crate::table::table;
-use std::fmt::Write;
+use crate::routes::{meet_of, route, tree_distance, Route};
+use crate::table::{check_entry, entry_of, table};
+use std::fmt::{Display, Write};
 
 /// The last line of most answers: nothing past the answer is ever written.
 const REST: &str = "rest kept\n";
@@ -81,7 +82,12 @@ pub fn answer(case: &Case) -> String {
         CHANGE_UNFILLED => unfilled_answer(case),
         WRITE => write_answer(case),
         READ => read_answer(case),
-        _ => block_answer(case),
+        PAYLOAD_OF => block_answer(case),
+        ROUTE => route_answer(case),
+        DISTANCE => distance_answer(case),
+        MEET => meet_answer(case),
+        ENTRY => entry_answer(case),
+        _ => node_answer(case),
     }
 }
 
@@ -97,6 +103,14 @@ fn verdict(call: &str, answer: Result<(), Refusal>) -> String {
     }
 }
 
+/// `ok` and a number, or the refusal.
+fn number(call: &str, answer: Result<impl Display, Refusal>) -> String {
+    match answer {
+        Ok(number) => format!("{call} ok {number}\n"),
+        Err(refusal) => refused(call, &refusal),
+    }
+}
+
 /// Numbers with a space before each.
 fn spaced<T: ToString>(numbers: &[T]) -> String {
     numbers
@@ -105,12 +119,15 @@ fn spaced<T: ToString>(numbers: &[T]) -> String {
         .collect()
 }
 
+/// The line of node x: the node, then the entry's numbers.
+fn entry_line(x: usize, entry: &[u64]) -> String {
+    format!("{x}{}\n", spaced(entry))
+}
+
 /// The entry lines of the first `count` entries.
 fn entry_lines(row: &[u64], count: usize) -> String {
     let entries = row.chunks_exact(ENTRY_WIDTH).take(count).enumerate();
-    entries
-        .map(|(x, entry)| format!("{x}{}\n", spaced(entry)))
-        .collect()
+    entries.map(|(x, entry)| entry_line(x, entry)).collect()
 }
 
 /// The link lines of the first `count` links.
@@ -226,4 +243,40 @@ fn block_answer(case: &Case) -> String {
         Ok(part) => "block ok\n".to_string() + &byte_lines(part),
         Err(refusal) => refused("block", &refusal),
     }
+}
+
+fn route_answer(case: &Case) -> String {
+    let rows = case.rows();
+    let mut row = vec![ROW_FILL; case.room];
+    let text = match route(&rows.lend(), case.abc[0], &mut row) {
+        Ok(Route { length, count }) => {
+            let nodes = spaced(&row[..count]);
+            format!("route ok {length}\nnodes{nodes}\n")
+        }
+        Err(refusal) => refused("route", &refusal),
+    };
+    text + REST
+}
+
+fn distance_answer(case: &Case) -> String {
+    let [a, b, _] = case.abc;
+    number("distance", tree_distance(&case.rows().lend(), a, b))
+}
+
+fn meet_answer(case: &Case) -> String {
+    let [a, b, _] = case.abc;
+    number("meet", meet_of(&case.rows().lend(), a, b))
+}
+
+fn entry_answer(case: &Case) -> String {
+    let a = case.abc[0];
+    match entry_of(&case.rows().lend(), case.depth, a) {
+        Ok(entry) => "entry ok\n".to_string() + &entry_line(usize::from(a), &entry.numbers()),
+        Err(refusal) => refused("entry", &refusal),
+    }
+}
+
+fn node_answer(case: &Case) -> String {
+    let answer = check_entry(&case.rows().lend(), case.depth, case.abc[0]);
+    verdict("node", answer.map(|_| ()))
 }

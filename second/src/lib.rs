@@ -24,6 +24,7 @@ pub mod random;
 pub mod reader;
 pub mod refusal;
 pub mod rng;
+pub mod routes;
 pub mod samples;
 pub mod series;
 pub mod shapes;

@@ -35,7 +35,8 @@ impl Link {
         self.ends.iter().any(|&end| end as usize == node)
     }
 
-    /// The end that is not the node, of a link that touches it.
+    /// The end that is not the node, of a link that touches it; the first end
+    /// of a link that does not.
     pub fn other_end(&self, node: usize) -> usize {
         let [a, b] = self.ends.map(usize::from);
         if a == node {
@@ -73,6 +74,16 @@ impl Network<'_> {
     /// Whether the node is the root.
     pub fn is_root(&self, x: usize) -> bool {
         x == self.root as usize
+    }
+
+    /// The link that any number names as its parent link, in rows that nobody
+    /// checked. No node, and a node that names no link, have ends 0 and 0,
+    /// length 0 and mark 0.
+    pub fn named_link(&self, x: usize) -> Link {
+        match self.parents.get(x).map(|&e| e as usize) {
+            Some(e) if e < self.m() => self.link(e),
+            _ => Link::from_numbers(&[0; LINK_WIDTH]),
+        }
     }
 
     /// The tree link of a node other than the root, in a checked network.

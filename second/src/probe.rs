@@ -13,9 +13,16 @@ pub const WRITE: u16 = 6;
 pub const READ: u16 = 7;
 pub const PAYLOAD_OF: u16 = 8;
 
-/// Whether the op is in the probe's table.
+/// The project's own ops, of docs/OPS.md.
+pub const ROUTE: u16 = 101;
+pub const DISTANCE: u16 = 102;
+pub const MEET: u16 = 103;
+pub const ENTRY: u16 = 104;
+pub const NODE: u16 = 105;
+
+/// Whether the op is in one of the probe's tables.
 pub fn is_op(op: u16) -> bool {
-    (CHECK..=PAYLOAD_OF).contains(&op)
+    (CHECK..=PAYLOAD_OF).contains(&op) || (ROUTE..=NODE).contains(&op)
 }
 
 /// Whether bytes follow the parents, not link numbers.
@@ -23,7 +30,7 @@ pub fn takes_bytes(op: u16) -> bool {
     op == READ || op == PAYLOAD_OF
 }
 
-/// A case. Ops 1 to 6 use `links`, ops 7 and 8 use `bytes`.
+/// A case. Ops 7 and 8 use `bytes`, all others `links`.
 #[derive(Clone, PartialEq, Eq, Debug, Default)]
 pub struct Case {
     pub op: u16,

@@ -73,6 +73,37 @@ pub fn rich_network(rng: &mut Rng) -> Rows {
     draft.with_tree(rng)
 }
 
+/// Rows that need not be a network: a link for each node, which mostly joins
+/// it to a lower one; parents, ends and the root at times any number.
+pub fn wild_rows(rng: &mut Rng) -> Rows {
+    let n = rng.from_to(1, 9);
+    let (mut parents, mut links) = (Vec::new(), Vec::new());
+    for x in 0..n {
+        let other = match rng.below(10) {
+            0..=6 => rng.below(x.max(1)) as u16,
+            7 | 8 => rng.below(n + 2) as u16,
+            _ => NO_NODE,
+        };
+        let mut ends = [x as u16, other];
+        if rng.chance(50) {
+            ends.reverse();
+        }
+        links.extend([ends[0], ends[1], rng.word(), rng.pick(&[1, 1, 0, 2])]);
+        parents.push(match rng.below(10) {
+            0..=6 => x as u16,
+            7 | 8 => rng.below(n + 2) as u16,
+            _ => NO_LINK,
+        });
+    }
+    let root = rng.pick(&[0, 0, 0, 0, 1, n as u16 - 1, n as u16, NO_NODE]);
+    links.truncate(links.len() - rng.pick(&[0, 0, 0, 1, 4]));
+    Rows {
+        parents,
+        links,
+        root,
+    }
+}
+
 /// A depth: the whole search, a small one, the largest, at times a wrong one.
 pub fn depth(rng: &mut Rng) -> u16 {
     match rng.below(20) {

@@ -17,7 +17,7 @@ pub enum Why {
     Mark = 6,
     /// The parent link is not one.
     ParentLink = 7,
-    /// A node has no route to the root.
+    /// A node has no route to the root, or what is asked is no node.
     NoRoute = 8,
     /// A link breaks shortness.
     Shortness = 9,

@@ -203,6 +203,22 @@ pub fn check_room(n: usize, row: &[u64]) -> Result<(), Refusal> {
     Ok(())
 }
 
+/// Refusals 1 to 9, then 8 at x where x is no node; the tree where there is
+/// none.
+pub fn check_entry(net: &Network, depth: u16, x: u16) -> Result<Tree, Refusal> {
+    let tree = check(net, depth)?;
+    if usize::from(x) >= net.n() {
+        return refuse(Why::NoRoute, usize::from(x));
+    }
+    Ok(tree)
+}
+
+/// The entry of node x by value, with the refusals of its check.
+pub fn entry_of(net: &Network, depth: u16, x: u16) -> Result<Entry, Refusal> {
+    let tree = check_entry(net, depth, x)?;
+    Ok(Search::new(net, &tree, depth).entry(usize::from(x)))
+}
+
 /// Writes the table into the first n entries of the row.
 pub fn table(net: &Network, depth: u16, row: &mut [u64]) -> Result<(), Refusal> {
     let tree = check(net, depth)?;

@@ -1,5 +1,5 @@
-//! The table, the map and the change against definitions walked plainly, on
-//! many small networks.
+//! The table, one entry, the map and the change against definitions walked
+//! plainly, on many small networks.
 
 mod common;
 #[path = "common/plain.rs"]
@@ -10,7 +10,7 @@ use second::map::map;
 use second::network::Rows;
 use second::random;
 use second::rng::Rng;
-use second::table::table;
+use second::table::{check_entry, entry_of, table};
 
 const DEPTHS: [u16; 5] = [65_535, 0, 1, 2, 510];
 
@@ -44,6 +44,28 @@ fn tables_are_equal() {
     }
     assert!(states.iter().all(|&count| count > 300), "{states:?}");
     assert!(free > 100, "{free}");
+}
+
+#[test]
+fn entries_by_value_are_equal() {
+    let mut rng = Rng::new(34);
+    for _ in 0..1_000 {
+        let rows = small_network(&mut rng);
+        let (net, n) = (rows.lend(), rows.parents.len());
+        let depth = rng.pick(&DEPTHS);
+        for x in 0..n {
+            let entry = entry_of(&net, depth, x as u16).unwrap();
+            assert_eq!(entry.numbers(), plain::entry(&rows, depth, x));
+            assert!(check_entry(&net, depth, x as u16).is_ok());
+        }
+        for x in [n as u16, 65_535] {
+            let right = Err((8, x as usize));
+            let answer = entry_of(&net, depth, x).map(|_| ());
+            assert_eq!(common::told(answer), right);
+            let answer = check_entry(&net, depth, x).map(|_| ());
+            assert_eq!(common::told(answer), right);
+        }
+    }
 }
 
 #[test]

@@ -3,23 +3,44 @@
 mod common;
 
 use second::answers::{answer, answers};
-use second::cases::{fixed, input, ops, ENDINGS};
+use second::cases::{fixed, input, kept, ops, random, ENDINGS};
 use second::listing::listing;
 use second::probe::{next, Case, Next};
+use second::rng::Rng;
 use second::samples::samples;
 use std::collections::BTreeSet;
 
-/// The verdicts printed for cases: the number, or 0 for `ok`.
+/// The verdict printed for a case: the number and place, or 0 for `ok`.
+fn verdict(case: &Case) -> (u16, u16) {
+    let text = answer(case);
+    let words: Vec<&str> = text.split_whitespace().collect();
+    match words[1] {
+        "refused" => (words[2].parse().unwrap(), words[3].parse().unwrap()),
+        _ => (0, 0),
+    }
+}
+
+/// The numbers of the verdicts printed for cases.
 fn verdicts(cases: &[Case]) -> BTreeSet<u16> {
-    let verdict = |case: &Case| {
-        let text = answer(case);
-        let words: Vec<&str> = text.split_whitespace().collect();
-        match words[1] {
-            "refused" => words[2].parse().unwrap(),
-            _ => 0,
-        }
-    };
-    cases.iter().map(verdict).collect()
+    cases.iter().map(|case| verdict(case).0).collect()
+}
+
+/// The cases that an input holds, and what is left behind them.
+fn cases_of(mut input: &[u8]) -> (Vec<Case>, &[u8]) {
+    let mut met = Vec::new();
+    while let Next::Case(case) = next(&mut input) {
+        met.push(case);
+    }
+    (met, input)
+}
+
+/// The cases of an op that are kept with the probe.
+fn kept_of(op: u16) -> Vec<Case> {
+    let bytes = kept();
+    let (mut cases, rest) = cases_of(&bytes);
+    assert!(rest.is_empty());
+    cases.retain(|case| case.op == op);
+    cases
 }
 
 fn set(numbers: &[u16]) -> BTreeSet<u16> {
@@ -40,6 +61,89 @@ fn every_refusal_of_every_op_is_met() {
     let file = [&network[..], &[20, 21, 22, 24]].concat();
     assert_eq!(verdicts(&fixed(7)), set(&file));
     assert_eq!(verdicts(&fixed(8)), set(&[0, 20, 21, 22]));
+}
+
+/// The verdicts of the project's own ops.
+fn own_verdicts(op: u16) -> BTreeSet<u16> {
+    match op {
+        101 => set(&[0, 1, 8, 10]),
+        102 | 103 => set(&[0, 1, 8]),
+        _ => (0..=9).collect(),
+    }
+}
+
+#[test]
+fn every_refusal_of_every_own_op_is_kept() {
+    for op in 101..=105 {
+        let (cases, all) = (kept_of(op), fixed(op));
+        assert!((40..=80).contains(&cases.len()), "{op}: {}", cases.len());
+        assert_eq!(verdicts(&cases), own_verdicts(op), "{op}");
+        assert_eq!(verdicts(&all), own_verdicts(op), "{op}");
+        assert_eq!(all[..cases.len()], cases);
+    }
+}
+
+/// Of random cases, too; and a third at least is answered.
+#[test]
+fn every_refusal_of_every_own_op_is_met_at_random() {
+    let mut rng = Rng::new(41);
+    for op in 101..=105 {
+        let cases: Vec<Case> = (0..2_000).map(|_| random(&mut rng, op)).collect();
+        assert_eq!(verdicts(&cases), own_verdicts(op), "{op}");
+        let taken = cases.iter().filter(|case| verdict(case).0 == 0).count();
+        assert!(taken > 2_000 / 3, "{op}: {taken}");
+        let no_node = |case: &&Case| usize::from(case.abc[0]) >= case.parents.len();
+        let none = cases.iter().filter(no_node).count();
+        assert!((20..400).contains(&none), "{op}: {none}");
+    }
+}
+
+/// For both nodes of ops 102 and 103: no node, and a node without a route.
+#[test]
+fn either_node_is_refused_among_the_kept() {
+    for op in [102, 103] {
+        let met: BTreeSet<(usize, bool)> = kept_of(op)
+            .iter()
+            .filter(|case| verdict(case).0 == 8)
+            .map(|case| {
+                let place = verdict(case).1;
+                let which = case.abc.iter().position(|&x| x == place);
+                (which.unwrap(), usize::from(place) < case.parents.len())
+            })
+            .collect();
+        assert_eq!(met.len(), 4, "{met:?}");
+    }
+}
+
+/// Each refusal of a network, asked of a node and of no node; 8 also where
+/// only what is asked is no node.
+#[test]
+fn the_network_comes_before_the_node_among_the_kept() {
+    for op in [104, 105] {
+        let cases = kept_of(op);
+        let met: BTreeSet<(u16, bool)> = cases
+            .iter()
+            .filter(|case| causes(case).contains(&verdict(case).0))
+            .map(|case| {
+                let is_node = usize::from(case.abc[0]) < case.parents.len();
+                (verdict(case).0, is_node)
+            })
+            .collect();
+        assert_eq!(met.len(), 18, "{met:?}");
+        let alone = cases.iter().filter(|case| causes(case).is_empty());
+        assert_eq!(verdicts(&alone.cloned().collect::<Vec<_>>()), set(&[0, 8]));
+    }
+}
+
+#[test]
+fn every_state_is_among_the_kept_entries() {
+    let state = |case: &Case| {
+        let text = answer(case);
+        let words: Vec<&str> = text.split_whitespace().collect();
+        (words[1] == "ok").then(|| words[3].to_string())
+    };
+    let met: BTreeSet<String> = kept_of(104).iter().filter_map(state).collect();
+    assert_eq!(met.into_iter().collect::<String>(), "0123");
 }
 
 /// The other end of a parent link, where it is one at all.
@@ -149,11 +253,7 @@ fn the_same_arguments_give_the_same_cases() {
 #[test]
 fn an_input_holds_what_was_asked() {
     let bytes = input(&[3, 8], ENDINGS, 6);
-    let mut rest = &bytes[..];
-    let mut met = Vec::new();
-    while let Next::Case(case) = next(&mut rest) {
-        met.push(case);
-    }
+    let (met, rest) = cases_of(&bytes);
     assert!(rest.is_empty());
     let both = [fixed(3), fixed(8)].concat();
     assert_eq!(met[..both.len()], both);
@@ -161,7 +261,7 @@ fn an_input_holds_what_was_asked() {
     assert_eq!(after, [3, 8, 3, 8, 3, 8]);
 }
 
-/// Over all endings: three stop as unknown, seven as too long.
+/// Over all endings: five stop as unknown, ten as too long.
 #[test]
 fn every_ending_is_met() {
     let last = |seed: u64| {
@@ -170,14 +270,19 @@ fn every_ending_is_met() {
     };
     let lines: Vec<String> = (0..ENDINGS).map(last).collect();
     let count = |line: &str| lines.iter().filter(|l| l.as_str() == line).count();
-    assert_eq!((count("unknown"), count("too long")), (3, 7));
+    assert_eq!((count("unknown"), count("too long")), (5, 10));
 }
 
 #[test]
 fn lists_of_ops() {
     assert_eq!(ops("1,3-5"), Some(vec![1, 3, 4, 5]));
     assert_eq!(ops("1-8").map(|list| list.len()), Some(8));
+    let own = Some(vec![8, 101, 102, 103, 104, 105]);
+    assert_eq!(ops("8,101-105"), own);
     for wrong in ["", "0", "9", "1-9", "5-3", "x", "1,,2"] {
+        assert_eq!(ops(wrong), None);
+    }
+    for wrong in ["100", "106", "8-101", "101-106"] {
         assert_eq!(ops(wrong), None);
     }
 }

@@ -140,6 +140,43 @@ fn the_block_reader() {
     assert_eq!(text, "block refused 22 9\n");
 }
 
+#[test]
+fn the_route_of_a_node() {
+    let right = "route ok 3\nnodes 3 1 0\nrest kept\n";
+    assert_eq!(answers(&case(101, 3, [3, 0, 0])), right);
+    assert_eq!(answers(&case(101, 40_000, [3, 9, 9])), right);
+    let right = "route ok 0\nnodes 0\nrest kept\n";
+    assert_eq!(answers(&case(101, 1, [0; 3])), right);
+    let short = "route refused 10 0\nrest kept\n";
+    assert_eq!(answers(&case(101, 2, [3, 0, 0])), short);
+    let none = "route refused 8 5\nrest kept\n";
+    assert_eq!(answers(&case(101, 0, [5, 0, 0])), none);
+}
+
+#[test]
+fn distance_and_meet() {
+    assert_eq!(answers(&case(102, 0, [2, 3, 9])), "distance ok 4\n");
+    assert_eq!(answers(&case(102, 0, [4, 3, 9])), "distance ok 12\n");
+    let none = "distance refused 8 65535\n";
+    assert_eq!(answers(&case(102, 0, [65_535, 5, 0])), none);
+    assert_eq!(answers(&case(103, 0, [2, 3, 9])), "meet ok 1\n");
+    assert_eq!(answers(&case(103, 0, [4, 3, 9])), "meet ok 0\n");
+    assert_eq!(answers(&case(103, 0, [3, 1, 9])), "meet ok 1\n");
+    assert_eq!(answers(&case(103, 0, [4, 5, 0])), "meet refused 8 5\n");
+}
+
+#[test]
+fn the_entry_of_a_node() {
+    let lines: Vec<&str> = TABLE.lines().collect();
+    for x in 0..5 {
+        let right = format!("entry ok\n{}\n", lines[x as usize]);
+        assert_eq!(answers(&case(104, 0, [x, 9, 9])), right);
+        assert_eq!(answers(&case(105, 0, [x, 9, 9])), "node ok\n");
+    }
+    assert_eq!(answers(&case(104, 0, [5, 0, 0])), "entry refused 8 5\n");
+    assert_eq!(answers(&case(105, 0, [6, 0, 0])), "node refused 8 6\n");
+}
+
 /// A head over a limit, an unknown op, an input that ends inside a case.
 #[test]
 fn inputs_that_stop_the_probe() {
@@ -148,8 +185,10 @@ fn inputs_that_stop_the_probe() {
     for length in 1..sound.len() {
         assert_eq!(after_one(&sound[..length]), "check ok\n");
     }
-    let unknown = [hex("0009 ffff"), vec![0; 18], sound.clone()].concat();
-    assert_eq!(after_one(&unknown), "check ok\nunknown\n");
+    for op in ["0000", "0009", "0064", "006a", "ffff"] {
+        let unknown = [hex(op), hex("ffff"), vec![0; 18], sound.clone()].concat();
+        assert_eq!(after_one(&unknown), "check ok\nunknown\n");
+    }
     let long = [hex("0001 0259"), vec![0; 18], sound.clone()].concat();
     assert_eq!(after_one(&long), "check ok\ntoo long\n");
     assert_eq!(after_one(&sound), "check ok\ncheck ok\n");
@@ -169,11 +208,16 @@ fn the_limits_of_a_case() {
     let most = [65_535; 3];
     assert!(!head(1, 600, 8_400, 40_000, most).too_long());
     assert!(!head(8, 600, 33_000, 40_000, most).too_long());
+    assert!(!head(101, 600, 8_400, 40_000, most).too_long());
+    assert!(!head(105, 600, 8_400, 40_000, most).too_long());
     assert!(!head(7, 600, 33_000, 40_000, [8_400, 600, 40_000]).too_long());
     assert!(head(1, 601, 0, 0, [0; 3]).too_long());
     assert!(head(6, 0, 8_401, 0, [0; 3]).too_long());
     assert!(head(7, 0, 33_001, 0, [0; 3]).too_long());
     assert!(head(8, 0, 0, 40_001, [0; 3]).too_long());
+    assert!(head(102, 601, 0, 0, [0; 3]).too_long());
+    assert!(head(103, 0, 8_401, 0, [0; 3]).too_long());
+    assert!(head(104, 0, 0, 40_001, [0; 3]).too_long());
     assert!(head(7, 0, 0, 0, [8_401, 0, 0]).too_long());
     assert!(head(7, 0, 0, 0, [0, 601, 0]).too_long());
     assert!(head(7, 0, 0, 0, [0, 0, 40_001]).too_long());

@@ -6,7 +6,7 @@ use crate::limits::*;
 use crate::probe::*;
 
 /// The number of endings. The seed modulo this number chooses one.
-pub const ENDINGS: u64 = 16;
+pub const ENDINGS: u64 = 21;
 
 /// The ending of a seed.
 pub fn ending(seed: u64) -> Vec<u8> {
@@ -31,9 +31,23 @@ pub fn ending(seed: u64) -> Vec<u8> {
         12 => stops(&whole, |head| read_rooms(head, [PROBE_LINKS + 1, 0, 0])),
         13 => stops(&whole, |head| read_rooms(head, [0, PROBE_PARENTS + 1, 0])),
         14 => stops(&whole, |head| read_rooms(head, [0, 0, PROBE_ROOM + 1])),
-        _ => stops(&whole, |head| {
+        15 => stops(&whole, |head| {
             head.op = PAYLOAD_OF;
             head.rest = PROBE_BYTES + 1;
+        }),
+        16 => stops(&whole, |head| head.op = ROUTE - 1),
+        17 => stops(&whole, |head| head.op = NODE + 1),
+        18 => stops(&whole, |head| {
+            head.op = ROUTE;
+            head.room = PROBE_ROOM + 1;
+        }),
+        19 => stops(&whole, |head| {
+            head.op = MEET;
+            head.rest = PROBE_LINKS + 1;
+        }),
+        _ => stops(&whole, |head| {
+            head.op = NODE;
+            head.parents = PROBE_PARENTS + 1;
         }),
     }
 }

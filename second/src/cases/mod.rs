@@ -1,11 +1,14 @@
 //! The case maker: for each op the fixed cases, then random ones, then an
 //! ending that the seed chooses.
 
+mod asked;
 pub mod blocks;
 mod changes;
 mod endings;
+mod entries;
 mod files;
 mod networks;
+mod routes;
 mod series;
 
 use crate::file_faults::sound_file;
@@ -14,6 +17,7 @@ use crate::named::large;
 use crate::probe::*;
 use crate::rng::Rng;
 
+pub use asked::chosen;
 pub use endings::ENDINGS;
 pub use series::series;
 
@@ -23,7 +27,8 @@ pub fn fixed(op: u16) -> Vec<Case> {
         CHECK | TABLE | MAP | WRITE => networks::fixed(op),
         CHANGE | CHANGE_UNFILLED => changes::fixed(op),
         READ => files::fixed(),
-        _ => blocks::fixed(),
+        PAYLOAD_OF => blocks::fixed(),
+        _ => asked::fixed(op),
     }
 }
 
@@ -33,7 +38,8 @@ pub fn random(rng: &mut Rng, op: u16) -> Case {
         CHECK | TABLE | MAP | WRITE => networks::random(rng, op),
         CHANGE | CHANGE_UNFILLED => changes::random(rng, op),
         READ => files::random(rng),
-        _ => blocks::random(rng),
+        PAYLOAD_OF => blocks::random(rng),
+        _ => asked::random(rng, op),
     }
 }
 
@@ -54,7 +60,8 @@ pub fn input(ops: &[u16], seed: u64, count: usize) -> Vec<u8> {
 }
 
 /// Cases of every op that are kept with the probe: of the fixed ones that are
-/// not long the first, and of the others one in ten.
+/// not long the first, and of the others one in ten. Of the project's own ops
+/// those that are chosen.
 pub fn kept() -> Vec<u8> {
     let mut out = Vec::new();
     for op in CHECK..=PAYLOAD_OF {
@@ -68,6 +75,8 @@ pub fn kept() -> Vec<u8> {
         let some = rest.iter().step_by(10).take(first);
         begin.iter().chain(some).for_each(|case| out.extend(case));
     }
+    let own = (ROUTE..=NODE).flat_map(chosen);
+    own.for_each(|case| out.extend(case.encode()));
     out
 }
 
@@ -89,7 +98,7 @@ pub fn ops(list: &str) -> Option<Vec<u16>> {
     for part in list.split(',') {
         let (low, high) = part.split_once('-').unwrap_or((part, part));
         let (low, high): (u16, u16) = (low.parse().ok()?, high.parse().ok()?);
-        if !is_op(low) || !is_op(high) || low > high {
+        if low > high || !(low..=high).all(is_op) {
             return None;
         }
         ops.extend(low..=high);

@@ -1,4 +1,5 @@
-//! Cases of ops 1, 2, 3 and 6: a network, a depth and a room.
+//! Cases of ops 1, 2, 3 and 6: a network, a depth and a room. Ops 101 to 105
+//! ask nodes of the same networks.
 
 use crate::faults::{Faulty, NETWORK_FAULTS};
 use crate::file::file_length;
@@ -112,7 +113,7 @@ fn with_faults(rng: &mut Rng, op: u16, faults: &[Why], short: bool) -> Case {
 
 /// Parents that lead round: two nodes, with nodes of lower number hanging
 /// below, and lengths of 0 so that no distance tells.
-fn cycles() -> Vec<Rows> {
+pub fn cycles() -> Vec<Rows> {
     let links = [[0, 1], [1, 2], [2, 3], [3, 4], [4, 5], [2, 3]];
     let rows = |parents: &[u16], length: u16| Rows {
         parents: parents.to_vec(),
@@ -134,7 +135,7 @@ fn cycles() -> Vec<Rows> {
 
 /// Harbour with one parent link wrong: the root's, no link, withdrawn, not
 /// touching the node; and with the root elsewhere.
-fn wrong_parents() -> Vec<Rows> {
+pub fn wrong_parents() -> Vec<Rows> {
     let named = |node: usize, link: u16| {
         let mut rows = harbour();
         rows.parents[node] = link;
