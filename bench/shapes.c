@@ -1,5 +1,5 @@
-// shapes SHAPE N M TIMES: writes a network of this shape (tree, grid, path, star) in the form that common.h describes. The same
-// words give the same network. `shapes SHAPE N M height` prints the height of its tree instead.
+// shapes SHAPE N M TIMES: writes a network of this shape (tree, grid, path, star) in the form that network.h describes. The
+// same words give the same network. `shapes SHAPE N M height` prints the height of its tree instead.
 //
 // Nodes and links are numbered at random. Tree links are 1 to 100 long. Every other link is as long as its ends' distances
 // differ or up to 99 more, so that the tree is a shortest-path tree. All are in service, and the search is whole.

@@ -1,0 +1,45 @@
+// A network with its tree in memory, and the form in which the programs here read one.
+//
+// Input: 16-bit words, high byte first: n, m, root, depth, times; n parents; m links of four words, two ends, length, mark.
+#include <stdint.h>
+#include <stdio.h>
+
+enum { NODES = 512, LINKS = 2048, DEPTH = 510, ENTRY = 7, MARK = 65535, HEAD = 5, WORDS = HEAD + NODES + 4 * LINKS };
+
+struct link {
+    uint16_t first, second, length, mark;
+};
+
+// A network with its tree, and the search asked for.
+struct network {
+    size_t n, m, root, depth;
+    uint16_t parents[NODES];
+    struct link links[LINKS];
+};
+
+static uint16_t word(const uint8_t *bytes, size_t i)
+{
+    return (uint16_t)(bytes[2 * i] << 8 | bytes[2 * i + 1]);
+}
+
+// Reads a file to its end. Answers 0 where it is not one whole network within the limits.
+static int read_network(FILE *file, struct network *net, size_t *times)
+{
+    static uint8_t bytes[2 * WORDS + 1];
+    size_t got = fread(bytes, 1, sizeof bytes, file);
+    if (got < 2 * HEAD)
+        return 0;
+    net->n = word(bytes, 0);
+    net->m = word(bytes, 1);
+    net->root = word(bytes, 2);
+    net->depth = word(bytes, 3);
+    *times = word(bytes, 4);
+    if (net->n > NODES || net->m > LINKS || got != 2 * (HEAD + net->n + 4 * net->m))
+        return 0;
+    size_t at = HEAD;
+    for (size_t u = 0; u < net->n; u++)
+        net->parents[u] = word(bytes, at++);
+    for (size_t e = 0; e < net->m; e++, at += 4)
+        net->links[e] = (struct link){word(bytes, at), word(bytes, at + 1), word(bytes, at + 2), word(bytes, at + 3)};
+    return 1;
+}
