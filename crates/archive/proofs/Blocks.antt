@@ -16,7 +16,7 @@ use Rattle.archive.specs.declared.Part.{Part}
 use Rattle.archive.specs.Parts.{blocksFor, blockCount, partAt}
 use Rattle.archive.specs.Work.{heldBytes, recordBy, laid, Held, Tabled}
 use Rattle.archive.specs.Writer.{recordOf, blockOf}
-use Rattle.block.specs.Bytes.{wordMost}
+use Rattle.numbers.specs.Bytes.{wordMost}
 use Rattle.archive.proofs.Parting.{Fit, held-room, part-fit, part-heard, Stands, part-stands}
 use Rattle.archive.proofs.Files.{few-nodes, few-links}
 use Rattle.archive.proofs.Laying.{record-size}

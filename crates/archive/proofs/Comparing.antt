@@ -9,7 +9,7 @@ use native.Mathlib.Omega.{arith}
 use lib.ListN.{length, getD, take, drop, length-drop}
 use lib.Seq.{length-take-le, getD-take, getD-drop, ext-getD}
 use Rattle.edition.specs.Stored.{blockBytes}
-use Rattle.block.specs.Bytes.{wordMost, numberIn}
+use Rattle.numbers.specs.Bytes.{wordMost, numberIn}
 use Rattle.archive.specs.Parts.{linkPlace, entryPlace}
 use Rattle.archive.specs.Work.{parentNumber}
 use Rattle.rows.specs.Lists.{same}

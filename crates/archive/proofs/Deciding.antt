@@ -20,7 +20,7 @@ use Rattle.network.specs.Network.{netOf}
 use Rattle.network.specs.Records.{sizeVerdict}
 use Rattle.network.proofs.Sizes.{sized-nodes, sized-links, sizes-grow}
 use Rattle.sound.specs.Sound.{recordVerdict, netVerdict}
-use Rattle.block.specs.Bytes.{wordMost}
+use Rattle.numbers.specs.Bytes.{wordMost}
 use Rattle.archive.specs.declared.Header.{Header}
 use Rattle.archive.specs.Parts.{blockCount}
 use Rattle.archive.specs.Reader.{nodesRead, linksRead, searchRead, headRead, netRead, blockRefusal, badEntry, Rows, tight, headVerdict, restVerdict, readVerdict}

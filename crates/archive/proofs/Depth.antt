@@ -16,7 +16,7 @@ use Rattle.sound.specs.Sound.{netVerdict}
 use Rattle.archive.specs.Writer.{fileOf}
 use Rattle.archive.proofs.Returning.{depth-written}
 use Rattle.network.specs.Records.{badDepth, sizeVerdict}
-use Rattle.block.specs.Bytes.{numberIn}
+use Rattle.numbers.specs.Bytes.{numberIn}
 use Rattle.archive.specs.Reader.{searchRead, netRead, Rows, headVerdict, readVerdict}
 
 -- a depth that is not bad is the whole search or at most the limit

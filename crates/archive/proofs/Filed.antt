@@ -11,7 +11,7 @@ use Rattle.rows.specs.Count.{rowsTo}
 use Rattle.rows.proofs.Records.{rows-at, rows-length}
 use Rattle.network.specs.Network.{Net}
 use Rattle.swap.specs.Entry.{entry}
-use Rattle.block.specs.Bytes.{bytesOf}
+use Rattle.numbers.specs.Bytes.{bytesOf}
 use Rattle.block.specs.Block.{recordBytes, front, filled, block}
 use Rattle.record.specs.Record.{headerRecord, linkRecord, entryRecord}
 use Rattle.record.proofs.Putting.{header-size, link-size, entry-size}

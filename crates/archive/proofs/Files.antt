@@ -18,7 +18,7 @@ use Rattle.sound.specs.Sound.{netVerdict, checked}
 use Rattle.sound.proofs.Handing.{sound-told, handed-then}
 use Rattle.sound.proofs.Sounds.{sound}
 use Rattle.sound.proofs.Holding.{nodes-few, links-few}
-use Rattle.block.specs.Bytes.{wordMost}
+use Rattle.numbers.specs.Bytes.{wordMost}
 use Rattle.archive.proofs.Filed.{block-size}
 use Rattle.archive.specs.Parts.{blocksFor, blockCount}
 use Rattle.archive.specs.Work.{Tabled}

@@ -17,7 +17,7 @@ use Rattle.network.specs.declared.Link.{Link}
 use Rattle.network.specs.Network.{linksIn, linkRow, putLink, pastLinks, netOf}
 use Rattle.network.proofs.Keeping.{rows-first, put-next}
 use Rattle.network.proofs.Sizes.{sized-nodes, sized-links}
-use Rattle.block.specs.Bytes.{numberIn}
+use Rattle.numbers.specs.Bytes.{numberIn}
 use Rattle.archive.specs.declared.Header.{Header}
 use Rattle.archive.specs.Parts.{blocksFor, blockCount, linkPlace, entryPlace}
 use Rattle.archive.specs.Reader.{nodesRead, linksRead, searchRead, headRead, storedLink, linksHeld, parentsHeld, netRead}

@@ -13,7 +13,8 @@ use Rattle.edition.specs.Stored.{frontBytes}
 use Rattle.rows.specs.Count.{rowsTo}
 use Rattle.rows.proofs.Records.{rows-length}
 use Rattle.record.specs.Record.{recordPut}
-use Rattle.record.proofs.Putting.{sets-behind, header-size, link-size, entry-size}
+use Rattle.numbers.proofs.Putting.{sets-behind}
+use Rattle.record.proofs.Putting.{header-size, link-size, entry-size}
 use Rattle.archive.specs.declared.Part.{Part}
 use Rattle.archive.specs.Work.{heldBytes, recordBy, laid, Held}
 use Rattle.archive.proofs.Parting.{kind-size}

@@ -11,7 +11,7 @@ use borrow.Author.Tests.{eqb-true, eqb-false, ne-eqb, leb-true, leb-false, le-lt
 use Rattle.edition.specs.Limits.{nodeLimit, linkLimit}
 use Rattle.edition.specs.Stored.{payloadBytes, headerKind, linksKind, tableKind, headerBytes, linkBytes, entryBytes, headersABlock, linksABlock, entriesABlock}
 use Rattle.rows.proofs.Tests.{clash}
-use Rattle.block.specs.Bytes.{wordMost}
+use Rattle.numbers.specs.Bytes.{wordMost}
 use Rattle.block.specs.Block.{capacity, recordBytes, unheard}
 use Rattle.archive.specs.declared.Part.{Part}
 use Rattle.archive.specs.Parts.{blocksFor, linkBlocks, blockCount, partOf, partAt}

@@ -9,7 +9,7 @@ use lib.Seq.{take-add, drop-drop, take-take, take-suc, getD-take, getD-drop}
 use Rattle.rows.specs.Count.{rowsTo}
 use Rattle.rows.proofs.Records.{rows-at}
 use Rattle.edition.specs.Stored.{blockBytes, frontBytes}
-use Rattle.block.specs.Bytes.{bytesOf, numberIn}
+use Rattle.numbers.specs.Bytes.{bytesOf, numberIn}
 use Rattle.archive.specs.Reader.{blockAt}
 
 -- c pieces of n each are the front of the row

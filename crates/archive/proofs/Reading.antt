@@ -8,7 +8,7 @@ use Rattle.edition.specs.Stored.{headerBytes, linkBytes}
 use Rattle.rows.proofs.Records.{rows-length}
 use Rattle.network.specs.Network.{netOf}
 use Rattle.network.proofs.Keeping.{rows-count, rows-link}
-use Rattle.block.specs.Bytes.{numberIn}
+use Rattle.numbers.specs.Bytes.{numberIn}
 use Rattle.record.specs.Record.{headerRecord, linkRecord}
 use Rattle.archive.specs.Parts.{linkPlace, entryPlace}
 use Rattle.archive.specs.Reader.{nodesRead, linksRead, searchRead, storedLink, linksHeld, parentsHeld, netRead}

@@ -24,7 +24,7 @@ use Rattle.sound.specs.Sound.{netVerdict}
 use Rattle.sound.proofs.Sounds.{sound}
 use Rattle.sound.proofs.Holding.{nodes-few, links-few, root-in, depth-few, parent-in}
 use Rattle.swap.specs.Entry.{entry}
-use Rattle.block.specs.Bytes.{bytesOf, numberIn, wordMost}
+use Rattle.numbers.specs.Bytes.{bytesOf, numberIn, wordMost}
 use Rattle.record.specs.Record.{headerRecord, linkRecord, entryRecord}
 use Rattle.archive.specs.Parts.{linkPlace, entryPlace}
 use Rattle.archive.specs.Writer.{fileOf}

@@ -22,7 +22,7 @@ use Rattle.network.specs.Network.{Net, linksIn, netOf}
 use Rattle.network.specs.Records.{sizeVerdict}
 use Rattle.sound.specs.Sound.{recordVerdict, netVerdict}
 use Rattle.swap.specs.Entry.{entry}
-use Rattle.block.specs.Bytes.{bytesOf}
+use Rattle.numbers.specs.Bytes.{bytesOf}
 use Rattle.block.specs.Block.{blockVerdict}
 use Rattle.block.proofs.Whole.{Zeroed, sealed-sound}
 use Rattle.record.specs.Record.{entryRecord}

@@ -20,7 +20,7 @@ use Rattle.network.specs.Records.{sizeVerdict}
 use Rattle.sound.specs.Sound.{recordVerdict}
 use Rattle.swap.specs.Entry.{entry}
 use Rattle.table.specs.Table.{table}
-use Rattle.block.specs.Bytes.{numberIn}
+use Rattle.numbers.specs.Bytes.{numberIn}
 use Rattle.block.specs.Block.{blockVerdict}
 use Rattle.archive.specs.declared.Header.{Header}
 use Rattle.archive.specs.declared.ReadAnswer.{ReadAnswer}

@@ -21,7 +21,7 @@ use Rattle.network.specs.Network.{Net, linksIn, linkIn, linkRow, pastLinks}
 use Rattle.sound.specs.Sound.{netVerdict}
 use Rattle.table.specs.Table.{table}
 use Rattle.record.specs.Record.{headerRecord, linkRecord, entryRecord}
-use Rattle.block.specs.Bytes.{numberIn}
+use Rattle.numbers.specs.Bytes.{numberIn}
 use Rattle.archive.specs.declared.Part.{Part}
 use Rattle.network.specs.Records.{sizeVerdict}
 use Rattle.archive.specs.declared.Header.{Header}

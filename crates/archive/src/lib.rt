@@ -8,7 +8,7 @@ ghost use Rattle.edition.specs.Stored.{blockBytes, entryBytes};
 ghost use Rattle.entries.specs.Row.{pastEntries};
 ghost use Rattle.network.specs.Network.{netOf, linksIn, pastLinks};
 ghost use Rattle.sound.specs.Sound.{netVerdict};
-ghost use Rattle.block.specs.Bytes.{wordMost};
+ghost use Rattle.numbers.specs.Bytes.{wordMost};
 ghost use Rattle.record.specs.Record.{recordPut};
 ghost use Rattle.archive.specs.Work.{heldBytes, recordBy, laid, Held, Tabled, linksFrom, parentNumber, badBy, badStored, Placed, contentVerdict, Blocked};
 ghost use Rattle.rows.specs.Count.{rowWith};
@@ -315,12 +315,12 @@ fn header_of(file: &[u8]) -> Header
     ensures { λ r. ⌜ r ≡ headRead (now (file .entry)) ⌝ }
 {
     let search = Search {
-        root: record::two_at(file, 12),
-        depth: record::two_at(file, 14),
+        root: numbers::two_at(file, 12),
+        depth: numbers::two_at(file, 14),
     };
     Header {
-        nodes: record::two_at(file, 8) as usize,
-        links: record::two_at(file, 10) as usize,
+        nodes: numbers::two_at(file, 8) as usize,
+        links: numbers::two_at(file, 10) as usize,
         search,
     }
 }
@@ -379,10 +379,10 @@ fn stored_link(file: &[u8], e: usize) -> Link
 {
     let at = link_place(e);
     Link {
-        first: record::two_at(file, at),
-        second: record::two_at(file, at + 2),
-        length: record::two_at(file, at + 4),
-        mark: record::two_at(file, at + 6),
+        first: numbers::two_at(file, at),
+        second: numbers::two_at(file, at + 2),
+        length: numbers::two_at(file, at + 4),
+        mark: numbers::two_at(file, at + 6),
     }
 }
 
@@ -405,7 +405,7 @@ fn fill_parents(file: &[u8], m: usize, n: usize, row: &mut [u16])
 {
     let mut x = 0;
     while x < n {
-        row[x] = record::two_at(file, entry_place(m, x));
+        row[x] = numbers::two_at(file, entry_place(m, x));
         x += 1;
     }
 }
