@@ -1,9 +1,7 @@
 // Ops 4 and 5: the change of one link, on a table worked out first and on a row that is none.
-ghost use Prim.Native.Nat.{_*_, _≤_};
+ghost use Prim.Native.Nat.{_≤_};
 ghost use lib.ListN.{length};
-ghost use Rattle.edition.specs.Limits.{entryWidth};
 use edition::Change;
-use edition::Memory;
 use edition::Search;
 use edition::Verdict;
 use lending::limits::LINKS;
@@ -22,10 +20,10 @@ fn copy_row(from: &[u16], to: &mut [u16])
     }
 }
 
-// Whether two rows have the same numbers from one place to before another.
-fn is_same(row: &[u16], copy: &[u16], from: usize, to: usize) -> bool {
-    let mut i = from;
-    while i < to {
+// Whether two rows have the same numbers as far as the first goes.
+fn is_same(row: &[u16], copy: &[u16]) -> bool {
+    let mut i = 0;
+    while i < row.len() {
         if rows::at(row, i, 0) != rows::at(copy, i, 0) {
             return false;
         }
@@ -34,17 +32,10 @@ fn is_same(row: &[u16], copy: &[u16], from: usize, to: usize) -> bool {
     true
 }
 
-// Whether all link numbers are as they were copied, but for those of the link's record where the change is taken.
-fn is_kept(said: Verdict, links: &[u16], copy: &[u16], e: u16) -> bool {
-    let from = e as usize * Memory::LINK;
-    match said {
-        Verdict::Taken => {
-            if !is_same(links, copy, 0, from) {
-                return false;
-            }
-            is_same(links, copy, from + Memory::LINK, links.len())
-        }
-        Verdict::Refused(_) => is_same(links, copy, 0, links.len()),
+// Puts the record of link e back as it was before the change, where that was taken.
+fn put_back(said: Verdict, links: &mut [u16], before: &[u16], e: u16) {
+    if let Verdict::Taken = said {
+        network::put_link(links, e as usize, network::link_at(before, e as usize));
     }
 }
 
@@ -69,31 +60,34 @@ fn put_said(out: &mut [u8], at: usize, said: Verdict) -> usize
     }
 }
 
-// Prints what a change answered and left: the link's record, the first n entries, and whether all else is kept.
+// Prints what a change answered and left: the link's record, the first n entries, and whether all else is kept. All link
+// numbers are then as they were before, where all but that record are kept.
 fn put_left(
     said: Verdict,
-    links: &[u16],
-    copy: &[u16],
+    links: &mut [u16],
+    before: &[u16],
     e: u16,
     row: &[u64],
     n: usize,
     out: &mut [u8],
     at: usize,
 ) -> usize
-    requires { ⌜ n * entryWidth ≤ length (now row) ⌝ }
     ensures { λ r. ⌜ r ≤ length (now (out .exit)) ⌝ }
 {
     let told = put_said(out, at, said);
     let linked = printing::put_link(out, told, links, e);
     let listed = printing::put_entries(out, linked, row, n);
-    let kept = put_kept(out, listed, is_kept(said, links, copy, e));
-    rest::put(out, kept, rest::is_kept_wide(row, n * Memory::ENTRY))
+    put_back(said, links, before, e);
+    let kept = put_kept(out, listed, is_same(links, before));
+    rest::put(
+        out,
+        kept,
+        rest::is_kept_wide(entries::past_entries(row, n), 0),
+    )
 }
 
 // The smaller of two numbers.
-fn smaller(a: usize, b: usize) -> usize
-    ensures { λ r. ⌜ (r ≤ a) × (r ≤ b) ⌝ }
-{
+fn smaller(a: usize, b: usize) -> usize {
     if a < b { a } else { b }
 }
 
@@ -111,7 +105,7 @@ fn change_row(
     ensures { λ r. ⌜ r ≤ length (now (out .exit)) ⌝ }
 {
     let said = change::change(links, parents, search, row, change);
-    let n = smaller(parents.len(), row.len() / Memory::ENTRY);
+    let n = smaller(parents.len(), entries::entries_in(row));
     put_left(said, links, before, change.link, row, n, out, at)
 }
 

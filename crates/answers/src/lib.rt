@@ -3,4 +3,6 @@
 pub mod changes;
 pub mod checking;
 pub mod maps;
+pub mod routes;
+pub mod single;
 pub mod tables;

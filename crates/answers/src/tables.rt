@@ -1,10 +1,8 @@
 // Op 2: the table.
 ghost use Prim.Native.Nat.{_≤_};
 ghost use lib.ListN.{length};
-use edition::Memory;
 use edition::Search;
 use edition::Verdict;
-use lending::limits::PARENTS;
 use lending::limits::ROOM;
 use lending::printing;
 use lending::rest;
@@ -17,11 +15,12 @@ fn put_table(said: Verdict, n: usize, row: &[u64], out: &mut [u8], at: usize) ->
     match said {
         Verdict::Taken => {
             let told = output::put(out, named, b"ok\n");
-            if PARENTS < n {
-                return told;
-            }
             let listed = printing::put_entries(out, told, row, n);
-            rest::put(out, listed, rest::is_kept_wide(row, n * Memory::ENTRY))
+            rest::put(
+                out,
+                listed,
+                rest::is_kept_wide(entries::past_entries(row, n), 0),
+            )
         }
         Verdict::Refused(refusal) => {
             let told = output::put_refusal(out, named, refusal);

@@ -1,10 +1,9 @@
 // Op 7: reading a file.
 ghost use Prim.Native.Nat.{_≤_};
 ghost use lib.ListN.{length};
-ghost use Rattle.lending.specs.Limits.{mostParents, mostLinks};
+ghost use Rattle.lending.specs.Limits.{mostLinks};
 use archive::Header;
 use archive::ReadAnswer;
-use edition::Memory;
 use lending::limits::LINKS;
 use lending::limits::PARENTS;
 use lending::limits::ROOM;
@@ -53,16 +52,14 @@ fn put_header(out: &mut [u8], at: usize, header: Header) -> usize
 }
 
 // Whether what lies past the records of n nodes and m links is as it was filled, in all three rows.
-fn is_kept(links: &[u16], parents: &[u16], row: &[u64], n: usize, m: usize) -> bool
-    requires { ⌜ (n ≤ mostParents) × (m ≤ mostLinks) ⌝ }
-{
-    if !rest::is_kept(links, m * Memory::LINK) {
+fn is_kept(links: &[u16], parents: &[u16], row: &[u64], n: usize, m: usize) -> bool {
+    if !rest::is_kept(network::past_links(links, m), 0) {
         return false;
     }
     if !rest::is_kept(parents, n) {
         return false;
     }
-    rest::is_kept_wide(row, n * Memory::ENTRY)
+    rest::is_kept_wide(entries::past_entries(row, n), 0)
 }
 
 // Prints what an accepted file holds. More links or nodes than a case can lend room for are not listed.

@@ -1,15 +1,16 @@
 -- The Harbour case of document 01: what is asked in P1 to P12, and the numbers that it gives. Assumes nothing.
 use mathlib.Core.Bool.{Bool, true, _&&_}
 use mathlib.Core.List.{List, [], _∷_, _++_}
-use Prim.Native.Nat.{ℕ, _*_}
+use Prim.Native.Nat.{ℕ}
 use lib.ListN.{replicate}
 use Rattle.edition.specs.declared.Verdict.{Verdict}
 use Rattle.edition.specs.declared.Verdict.the-variants.{Taken, Refused}
 use Rattle.edition.specs.declared.Search.{Search}
 use Rattle.edition.specs.declared.Change.{Change}
-use Rattle.edition.specs.Limits.{noLink, noNode, wholeSearch, entryWidth, mapWords}
+use Rattle.edition.specs.Limits.{noLink, noNode, wholeSearch, mapWords}
 use Rattle.edition.specs.Refusals.{numberOf}
 use Rattle.edition.specs.Entries.{entryRow}
+use Rattle.rows.specs.Count.{rowsTo}
 use Rattle.rows.specs.Lists.{same}
 use Rattle.network.specs.Network.{Net, netOf}
 use Rattle.swap.specs.Entry.{entry}
@@ -60,12 +61,12 @@ three = 1 ∷ 4 ∷ 4 ∷ 4 ∷ 7 ∷ 4 ∷ 7 ∷ []
 unfoldable pub right : List ℕ
 right = rootEntry ++ one ++ two ++ three ++ bridge
 
--- A table whose every number is wrong, and one wrong entry.
-unfoldable pub wrong : List ℕ
-wrong = replicate (5 * entryWidth) 9
-
+-- An entry whose every number is wrong, and a table of such.
 unfoldable pub nine : List ℕ
-nine = replicate entryWidth 9
+nine = 9 ∷ 9 ∷ 9 ∷ 9 ∷ 9 ∷ 9 ∷ 9 ∷ []
+
+unfoldable pub wrong : List ℕ
+wrong = nine ++ nine ++ nine ++ nine ++ nine
 
 -- The row of links after P7 (link 5 has length 2) and after P9 (link 3 is withdrawn).
 unfoldable pub linksSeven : List ℕ
@@ -115,7 +116,7 @@ said Taken = 0 ∷ 0 ∷ []
 said (Refused r) = numberOf (r .why) ∷ r .place ∷ []
 
 unfoldable pub room : Net → List ℕ
-room g = replicate (g .nodes * entryWidth) 9
+room g = rowsTo (λ x. nine) (g .nodes)
 
 unfoldable pub after : Lent → List ℕ
 after lent = lent .links ++ lent .entries

@@ -1,9 +1,8 @@
 // Printing of lent rows: the record of a link, the lines of entries, and bytes.
 ghost use Prim.Native.Nat.{_≤_};
 ghost use lib.ListN.{length};
-ghost use Rattle.lending.specs.Limits.{mostParents};
 use crate::limits::PARENTS;
-use edition::Memory;
+use edition::Entry;
 
 // Bytes a line.
 const LINE: usize = 32;
@@ -18,28 +17,36 @@ pub fn put_link(out: &mut [u8], at: usize, links: &[u16], e: u16) -> usize
     if network::links_in(links) <= e as usize {
         return at;
     }
-    let mut waits = output::put(out, at, b"link");
-    let mut i = 0;
-    while i < Memory::LINK {
-        let number = rows::at(links, e as usize * Memory::LINK + i, 0);
-        waits = output::put_field(out, waits, number as u64);
-        i += 1;
-    }
-    output::put_newline(out, waits)
+    let l = network::link_at(links, e as usize);
+    let named = output::put(out, at, b"link");
+    let first = output::put_field(out, named, l.first as u64);
+    let second = output::put_field(out, first, l.second as u64);
+    let length = output::put_field(out, second, l.length as u64);
+    let mark = output::put_field(out, length, l.mark as u64);
+    output::put_newline(out, mark)
 }
 
-// Prints the entry line of node u.
-fn put_entry(out: &mut [u8], at: usize, row: &[u64], u: usize) -> usize
-    requires { ⌜ u ≤ mostParents ⌝ }
+// Prints three numbers, a space before each.
+fn put_three(out: &mut [u8], at: usize, a: u64, b: u64, c: u64) -> usize
     ensures { λ r. ⌜ r ≤ length (now (out .exit)) ⌝ }
 {
-    let mut waits = output::put_number(out, at, u as u64);
-    let mut i = 0;
-    while i < Memory::ENTRY {
-        waits = output::put_field(out, waits, rows::wide_at(row, u * Memory::ENTRY + i));
-        i += 1;
-    }
-    output::put_newline(out, waits)
+    let first = output::put_field(out, at, a);
+    let second = output::put_field(out, first, b);
+    output::put_field(out, second, c)
+}
+
+// Prints the entry line of node u: its state, the links and then the costs for sum, incr and max.
+pub fn put_entry(out: &mut [u8], at: usize, u: usize, entry: Entry) -> usize
+    ensures { λ r. ⌜ r ≤ length (now (out .exit)) ⌝ }
+{
+    let sum = entry.sum;
+    let incr = entry.incr;
+    let max = entry.max;
+    let named = output::put_number(out, at, u as u64);
+    let told = output::put_field(out, named, entry.state);
+    let linked = put_three(out, told, sum.link, incr.link, max.link);
+    let priced = put_three(out, linked, sum.cost, incr.cost, max.cost);
+    output::put_newline(out, priced)
 }
 
 // Prints the entry lines of the first n nodes; none where n is over the limit on parents.
@@ -55,7 +62,7 @@ pub fn put_entries(out: &mut [u8], at: usize, row: &[u64], n: usize) -> usize
     let mut waits = at;
     let mut u = 0;
     while u < n {
-        waits = put_entry(out, waits, row, u);
+        waits = put_entry(out, waits, u, entries::entry_at(row, u));
         u += 1;
     }
     waits

@@ -10,6 +10,8 @@ const NUMBER: u16 = 7;
 
 const WIDE: u64 = 7;
 
+const NODE: usize = 7;
+
 const BYTE: u8 = 165;
 
 // Fills a row of links or parents.
@@ -30,6 +32,17 @@ pub fn fill_wide(row: &mut [u64])
     let mut i = 0;
     while i < row.len() {
         row[i] = WIDE;
+        i += 1;
+    }
+}
+
+// Fills a row of nodes.
+pub fn fill_nodes(row: &mut [usize])
+    ensures { λ _. ⌜ now (row .exit) ≡ rowWith (λ i. fillMark) (length (now (row .entry))) (now (row .entry)) ⌝ }
+{
+    let mut i = 0;
+    while i < row.len() {
+        row[i] = NODE;
         i += 1;
     }
 }
@@ -66,6 +79,20 @@ pub fn is_kept_wide(row: &[u64], from: usize) -> bool
     let mut i = from;
     while i < row.len() {
         if row[i] != WIDE {
+            return false;
+        }
+        i += 1;
+    }
+    true
+}
+
+// Whether all of a row of nodes from a place on is as it was filled.
+pub fn is_kept_nodes(row: &[usize], from: usize) -> bool
+    ensures { λ r. ⌜ r ≡ isKept fillMark (now (row .entry)) from ⌝ }
+{
+    let mut i = from;
+    while i < row.len() {
+        if row[i] != NODE {
             return false;
         }
         i += 1;

@@ -9,6 +9,13 @@ use Rattle.probe.specs.declared.input.Head.{Head}
 abbrev pub lastOp : ℕ
 lastOp = 8
 
+-- The project's own ops are these and those between.
+abbrev pub firstOwn : ℕ
+firstOwn = 101
+
+abbrev pub lastOwn : ℕ
+lastOwn = 105
+
 -- The op that lends three rows, and the other one behind whose parents bytes follow.
 abbrev pub readOp : ℕ
 readOp = 7
@@ -16,9 +23,9 @@ readOp = 7
 abbrev pub payloadOp : ℕ
 payloadOp = 8
 
--- Is the op in the probe's table?
+-- Is the op in the probe's table, or one of the project's own?
 unfoldable pub isOp : ℕ → Bool
-isOp op = not (ltb op 1) && leb op lastOp
+isOp op = not (ltb op 1) && (leb op lastOp || (not (ltb op firstOwn) && leb op lastOwn))
 
 -- Do bytes follow the parents, not link numbers?
 unfoldable pub takesBytes : ℕ → Bool

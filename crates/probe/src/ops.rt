@@ -1,5 +1,5 @@
 // The table of ops. An op is one function over rows and numbers of the head, and answers how much waits to be printed. It is
-// added by the last op of `is_op` and its call in `answer`.
+// added by its range in `is_op` and its call in `answer`.
 ghost use mathlib.Core.Path.{_≡_};
 ghost use Prim.Native.Nat.{_≤_};
 ghost use lib.ListN.{length};
@@ -8,6 +8,8 @@ use crate::input::Head;
 use answers::changes;
 use answers::checking;
 use answers::maps;
+use answers::routes;
+use answers::single;
 use answers::tables;
 use edition::Change;
 use filing::blocks;
@@ -30,6 +32,17 @@ pub const READ: u16 = 7;
 
 pub const PAYLOAD: u16 = 8;
 
+// The ops of the project's own.
+pub const ROUTE: u16 = 101;
+
+pub const DISTANCE: u16 = 102;
+
+pub const MEET: u16 = 103;
+
+pub const ENTRY: u16 = 104;
+
+pub const NODE: u16 = 105;
+
 // Whether the op is in the probe's table.
 pub fn is_op(op: u16) -> bool
     ensures { λ r. ⌜ r ≡ isOp op ⌝ }
@@ -37,7 +50,13 @@ pub fn is_op(op: u16) -> bool
     if op < CHECK {
         return false;
     }
-    op <= PAYLOAD
+    if op <= PAYLOAD {
+        return true;
+    }
+    if op < ROUTE {
+        return false;
+    }
+    op <= NODE
 }
 
 // Whether bytes follow the parents, not link numbers.
@@ -59,12 +78,36 @@ fn change_of(head: Head) -> Change {
     }
 }
 
+// Prints what an op on the tree or on one node answers.
+fn answer_own(head: Head, links: &[u16], parents: &[u16], out: &mut [u8], at: usize) -> usize
+    ensures { λ r. ⌜ r ≤ length (now (out .exit)) ⌝ }
+{
+    let op = head.op;
+    let search = head.search;
+    if op == ROUTE {
+        return routes::route(links, parents, search, head.a, head.room, out, at);
+    }
+    if op == DISTANCE {
+        return routes::distance(links, parents, search, head.a, head.b, out, at);
+    }
+    if op == MEET {
+        return routes::meet(links, parents, search, head.a, head.b, out, at);
+    }
+    if op == ENTRY {
+        return single::entry(links, parents, search, head.a, out, at);
+    }
+    single::node(links, parents, search, head.a, out, at)
+}
+
 // Prints what an op on a network answers.
 fn answer_network(head: Head, links: &[u16], parents: &[u16], out: &mut [u8], at: usize) -> usize
     ensures { λ r. ⌜ r ≤ length (now (out .exit)) ⌝ }
 {
     let op = head.op;
     let search = head.search;
+    if PAYLOAD < op {
+        return answer_own(head, links, parents, out, at);
+    }
     if op == CHECK {
         return checking::check(links, parents, search, out, at);
     }

@@ -1,15 +1,16 @@
 -- `answers::changes::is_same` meets its contract. Assumes nothing.
 use Prim.Native.Nat.{_-_}
+use lib.ListN.{length}
 use mathlib.Core.Path.{_≡_, refl}
 use borrow.Author.Needs.{needs}
 use Rattle.answers.proofs.changes.is_same.Statement.{statement}
 use Rattle.answers.proofs.changes.is_same.Tie as tie
 
 abbrev Inv-loop : tie.InvT-loop
-Inv-loop row copy from to i₀ i = i ≡ i
+Inv-loop row copy i₀ i = i ≡ i
 
 abbrev μ-loop : tie.MeasureT-loop
-μ-loop row copy from to i₀ i = to - i
+μ-loop row copy i₀ i = length row - i
 
 loop-holds : tie.Need-loop-holds Inv-loop μ-loop
 loop-holds c = refl

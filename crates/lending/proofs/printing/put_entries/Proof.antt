@@ -27,6 +27,9 @@ returns-2 c = search needs
 loop-holds : tie.Need-loop-holds Inv-loop μ-loop
 loop-holds c = search needs
 
+entry-at-requires : tie.Need-entry-at-requires Inv-loop μ-loop
+entry-at-requires c κs = search needs
+
 put-entry-requires : tie.Need-put-entry-requires Inv-loop μ-loop
 put-entry-requires c κs = search needs
 
@@ -56,6 +59,7 @@ put-entries-spec =
     returns
     returns-2
     loop-holds
+    entry-at-requires
     put-entry-requires
     add-u
     loop-less

@@ -1,32 +1,28 @@
--- `lending::printing::put_entry` meets its contract. Assumes nothing.
-use Rattle.edition.specs.Limits.{entryWidth}
-use lib.ListN.{length}
-use Prim.Native.Nat.{_-_}
+-- `answers::routes::put_nodes` meets its contract. Assumes nothing.
 use mathlib.Core.Path.{_≡_}
+use Prim.Native.Nat.{_-_}
+use lib.ListN.{length}
 use borrow.Author.Needs.{needs}
-use Rattle.lending.proofs.printing.put_entry.Statement.{statement}
-use Rattle.lending.proofs.printing.put_entry.Tie as tie
+use Rattle.answers.proofs.routes.put_nodes.Statement.{statement}
+use Rattle.answers.proofs.routes.put_nodes.Tie as tie
 
 abbrev Inv-loop : tie.InvT-loop
-Inv-loop out₀ at row u waits₀ i₀ out waits i = length out ≡ length out₀
+Inv-loop out₀ at row n waits₀ i₀ out waits i = length out ≡ length out₀
 
 abbrev μ-loop : tie.MeasureT-loop
-μ-loop out₀ at row u waits₀ i₀ out waits i = entryWidth - i
+μ-loop out₀ at row n waits₀ i₀ out waits i = n - i
 
-put-number-requires : tie.Need-put-number-requires Inv-loop μ-loop
-put-number-requires c κs = search needs
+slice-aggregate-put : tie.Need-slice-aggregate-put Inv-loop μ-loop
+slice-aggregate-put c = search needs
+
+put-requires : tie.Need-put-requires Inv-loop μ-loop
+put-requires c κs = search needs
 
 loop-holds : tie.Need-loop-holds Inv-loop μ-loop
 loop-holds c = search needs
 
-mul-wide-at : tie.Need-mul-wide-at Inv-loop μ-loop
-mul-wide-at c = search needs
-
-add-wide-at : tie.Need-add-wide-at Inv-loop μ-loop
-add-wide-at c = search needs
-
-wide-at-requires : tie.Need-wide-at-requires Inv-loop μ-loop
-wide-at-requires c κs = search needs
+node-at-requires : tie.Need-node-at-requires Inv-loop μ-loop
+node-at-requires c κs = search needs
 
 put-field-requires : tie.Need-put-field-requires Inv-loop μ-loop
 put-field-requires c κs = search needs
@@ -49,17 +45,16 @@ same-length c = search needs
 returns : tie.Need-returns Inv-loop μ-loop
 returns c = search needs
 
-pub put-entry-spec : {M : Type 1} → statement M
-put-entry-spec =
+pub put-nodes-spec : {M : Type 1} → statement M
+put-nodes-spec =
     tie.close
     (tie.spec
     Inv-loop
     μ-loop
-    put-number-requires
+    slice-aggregate-put
+    put-requires
     loop-holds
-    mul-wide-at
-    add-wide-at
-    wide-at-requires
+    node-at-requires
     put-field-requires
     add-i
     loop-less
