@@ -39,7 +39,6 @@ uint64_t painted_put_entry(uint8_t *bytes, size_t bytes_length, size_t at, uint1
     uint64_t cost);
 
 uint64_t painted_check_routes(PAINTED_NETWORK);
-uint64_t painted_verdict(PAINTED_NETWORK);
 uint64_t painted_check_network(PAINTED_NETWORK);
 
 uint64_t painted_check_table(PAINTED_NETWORK, const uint64_t *entries, size_t entries_length);

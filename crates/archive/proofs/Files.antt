@@ -8,9 +8,11 @@ use lib.ListN.{length, drop}
 use Rattle.edition.specs.declared.Search.{Search}
 use Rattle.edition.specs.declared.Verdict.{Verdict}
 use Rattle.edition.specs.declared.Verdict.the-variants.{Taken, Refused}
-use Rattle.edition.specs.Stored.{blockBytes}
+use Rattle.edition.specs.Stored.{storedNodes, storedLinks, editionLimits, blockBytes, blockLimit}
 use Rattle.rows.specs.Count.{rowsTo}
-use Rattle.network.specs.Network.{linksIn, netOf}
+use Rattle.network.specs.Network.{Net, linksIn, netOf}
+use Rattle.network.specs.Records.{sizeVerdict}
+use Rattle.network.proofs.Sizes.{sized-nodes, sized-links}
 use Rattle.sound.specs.declared.Sizes.{Sizes}
 use Rattle.sound.specs.declared.Checked.{Checked}
 use Rattle.sound.specs.declared.Checked.the-variants.{Sound}
@@ -38,6 +40,21 @@ use borrow.Author.Tests.{ltb-false}
 pub few-blocks : (n m r : ℕ) → r ≡ blockCount n m → n ≤ wordMost → m ≤ wordMost → r ≤ wordMost
 unfolding blockCount blocksFor
 few-blocks n m r q ln lm = omega (arith, q, ln, lm)
+
+-- a file within edition 1's limits has at most 63 blocks, and the largest has 63
+pub blocks-limited : (n m : ℕ) → n ≤ storedNodes → m ≤ storedLinks → blockCount n m ≤ blockLimit
+unfolding blockCount blocksFor
+blocks-limited n m ln lm = omega (arith, ln, lm)
+
+pub blocks-reached : blockCount storedNodes storedLinks ≡ blockLimit
+unfolding blockCount blocksFor
+blocks-reached = refl
+
+-- so it is no longer than 32,256 bytes
+pub file-limited : (g : Net) → sizeVerdict editionLimits (g .nodes) (g .links) (g .search) ≡ Taken → fileLength g ≤ blockLimit * blockBytes
+unfolding fileLength
+file-limited g t =
+    omega (arith, blocks-limited (g .nodes) (g .links) (sized-nodes editionLimits _ _ _ t) (sized-links editionLimits _ _ _ t))
 
 -- the sizes of a sound network
 module _ (links parents : List ℕ) (search : Search) (ok : netVerdict (netOf links parents search) ≡ Taken) where

@@ -8,13 +8,8 @@ use edition::Search;
 use edition::Verdict;
 use words::HEAD;
 
-// Words of the links, and of the entries, at the limits.
-const LINK_WORDS: usize = Memory::LINKS * Memory::LINK;
-
-const ENTRY_WORDS: usize = Memory::NODES * Memory::ENTRY;
-
 // Bytes of the longest input, and one more, by which a longer one is seen.
-const BYTES: usize = 2 * (HEAD + Memory::NODES + LINK_WORDS) + 1;
+const BYTES: usize = 2 * (HEAD + Memory::NODES + Memory::LINK_ROW) + 1;
 
 // The number, or that the input is refused.
 enum Outcome {
@@ -67,22 +62,27 @@ fn worked(raw: &[u8], links: &mut [u16], parents: &mut [u16], entries: &mut [u64
     if parents.len() < n {
         return Outcome::Refused;
     }
-    if links.len() / Memory::LINK < m {
+    let linked = network::numbers_of(m);
+    let tabled = entries::numbers_of(n);
+    if network::links_in(links) < m {
         return Outcome::Refused;
     }
-    if entries.len() / Memory::ENTRY < n {
+    if links.len() < linked {
         return Outcome::Refused;
     }
-    if raw.len() != 2 * (HEAD + n + m * Memory::LINK) {
+    if entries.len() < tabled {
+        return Outcome::Refused;
+    }
+    if raw.len() != 2 * (HEAD + n + linked) {
         return Outcome::Refused;
     }
     words::decode(&raw[2 * HEAD..], &mut parents[0..n]);
-    words::decode(&raw[2 * (HEAD + n)..], &mut links[0..m * Memory::LINK]);
+    words::decode(&raw[2 * (HEAD + n)..], &mut links[0..linked]);
     repeat(
-        &links[0..m * Memory::LINK],
+        &links[0..linked],
         &parents[0..n],
         head.search,
-        &mut entries[0..n * Memory::ENTRY],
+        &mut entries[0..tabled],
         head.count,
     )
 }
@@ -107,8 +107,8 @@ fn run(raw: &mut [u8], links: &mut [u16], parents: &mut [u16], entries: &mut [u6
 
 fn main() {
     let mut raw = [0u8; BYTES];
-    let mut links = [0u16; LINK_WORDS];
+    let mut links = [0u16; Memory::LINK_ROW];
     let mut parents = [0u16; Memory::NODES];
-    let mut entries = [0u64; ENTRY_WORDS];
+    let mut entries = [0u64; Memory::ENTRY_ROW];
     run(&mut raw, &mut links, &mut parents, &mut entries);
 }

@@ -59,6 +59,6 @@ linksABlock = 63
 abbrev pub entriesABlock : ℕ
 entriesABlock = 18
 
--- A file over 63 blocks is none of edition 1.
+-- The largest file has 63 blocks.
 abbrev pub blockLimit : ℕ
 blockLimit = 63

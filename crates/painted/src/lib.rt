@@ -293,11 +293,6 @@ pub extern "C" fn painted_check_routes(
 }
 
 #[no_mangle]
-pub extern "C" fn painted_verdict(links: &[u16], parents: &[u16], root: u16, depth: u16) -> u64 {
-    said(sound::verdict(links, parents, Search { root, depth }))
-}
-
-#[no_mangle]
 pub extern "C" fn painted_check_network(
     links: &[u16],
     parents: &[u16],

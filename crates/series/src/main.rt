@@ -20,16 +20,13 @@ const CHANGE: usize = 3;
 // The most changes of a series.
 const CHANGES: usize = 1000;
 
-// Words of the links at the limit.
-const LINK_WORDS: usize = Memory::LINKS * Memory::LINK;
-
-// Entries of room past the table, and numbers of the lent row at the limit.
+// Entries of room past the table, and numbers of a row that is never too short for both.
 const SPARE: usize = 2;
 
-const ENTRY_WORDS: usize = (Memory::NODES + SPARE) * Memory::ENTRY;
+const LENT: usize = 2 * Memory::ENTRY_ROW;
 
 // Bytes of the longest input, and one more, by which a longer one is seen.
-const BYTES: usize = 2 * (HEAD + Memory::NODES + LINK_WORDS + CHANGES * CHANGE) + 1;
+const BYTES: usize = 2 * (HEAD + Memory::NODES + Memory::LINK_ROW + CHANGES * CHANGE) + 1;
 
 // The number that lent room is filled with.
 const FILL: u64 = 7;
@@ -177,25 +174,30 @@ fn answered(raw: &[u8], links: &mut [u16], parents: &mut [u16], entries: &mut [u
     if parents.len() < n {
         return false;
     }
-    if links.len() / Memory::LINK < m {
+    let linked = network::numbers_of(m);
+    let lent = entries::numbers_of(n) + entries::numbers_of(SPARE);
+    if network::links_in(links) < m {
         return false;
     }
-    if entries.len() / Memory::ENTRY < n + SPARE {
+    if links.len() < linked {
+        return false;
+    }
+    if entries.len() < lent {
         return false;
     }
     if CHANGES < k {
         return false;
     }
-    if raw.len() != 2 * (HEAD + n + m * Memory::LINK + k * CHANGE) {
+    if raw.len() != 2 * (HEAD + n + linked + k * CHANGE) {
         return false;
     }
     worked(
         raw,
         k,
-        &mut links[0..m * Memory::LINK],
+        &mut links[0..linked],
         &mut parents[0..n],
         head.search,
-        &mut entries[0..(n + SPARE) * Memory::ENTRY],
+        &mut entries[0..lent],
     );
     true
 }
@@ -210,8 +212,8 @@ fn run(raw: &mut [u8], links: &mut [u16], parents: &mut [u16], entries: &mut [u6
 
 fn main() {
     let mut raw = [0u8; BYTES];
-    let mut links = [0u16; LINK_WORDS];
+    let mut links = [0u16; Memory::LINK_ROW];
     let mut parents = [0u16; Memory::NODES];
-    let mut entries = [FILL; ENTRY_WORDS];
+    let mut entries = [FILL; LENT];
     run(&mut raw, &mut links, &mut parents, &mut entries);
 }
