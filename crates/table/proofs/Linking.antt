@@ -1,35 +1,37 @@
 -- One link offered to every node that it crosses, by two climbs. Assumes nothing.
-use mathlib.Core.Path.{_≡_, refl, sym, subst, ap, _∙_}
+use mathlib.Core.Path.{_≡_, refl, sym, subst, ap, ap₂, _∙_}
 use mathlib.Core.Bool.{Bool, true, false, cond, not, _&&_, _||_}
 use mathlib.Core.List.{List}
-use Prim.Native.Nat.{ℕ, suc, _<_, _≤_}
+use Prim.Native.Nat.{ℕ, suc, _+_, _<_, _≤_}
 use native.Mathlib.Omega.{arith}
 use lib.Dec.{eqb}
 use lib.ListN.{length, getD}
-use borrow.Author.Tests.{eqb-true, eqb-false, ne-eqb}
+use borrow.Author.Tests.{eqb-true, ne-eqb}
 use Rattle.edition.specs.declared.Search.{Search}
 use Rattle.edition.specs.declared.Verdict.the-variants.{Taken}
 use Rattle.rows.specs.Lists.{has, upTo, differ}
-use Rattle.rows.proofs.Tests.{clash, either, and-none, or-swap}
+use Rattle.rows.proofs.Tests.{clash, either, not-so, and-none, or-swap}
+use Rattle.rows.proofs.Listed.{upTo-out}
+use Rattle.network.specs.declared.Link.{Link}
 use Rattle.network.specs.Network.{Net, netOf, inService, touches}
 use Rattle.tree.specs.Tree.{Tree, treeOf, route, under, meet, onPath}
-use Rattle.tree.proofs.Ways.{Home}
+use Rattle.tree.proofs.Ways.{Home, under-cut, under-root}
+use Rattle.tree.proofs.Meeting.{on-path}
 use Rattle.tree.proofs.Bounded.{under-below}
 use Rattle.tree.proofs.Climbing.{shorter}
-use Rattle.tree.proofs.InRows.{treeIn}
+use Rattle.tree.proofs.InRows.{size-in}
 use Rattle.sound.specs.Sound.{netVerdict}
 use Rattle.sound.proofs.Sounds.{Sound, sound}
-use Rattle.sound.proofs.Holding.{first-in, second-in, parent-touches, link-path}
+use Rattle.sound.proofs.Holding.{first-in, second-in, parent-touches, home, up-in}
 use Rattle.swap.specs.Swap.{lower, crosses}
 use Rattle.swap.specs.Fold.{count}
 use Rattle.swap.proofs.Prefixes.{entry-unmoved, entry-top}
 use Rattle.table.specs.declared.Side.{Side}
 use Rattle.table.specs.Table.{marked}
-use Rattle.table.specs.Work.{Entries, Carries, Crossing, want, OfferedAt, Ready, Spare, Linked}
-use Rattle.table.proofs.BothSides.{all-in, closed-in}
+use Rattle.table.specs.Work.{Entries, Carries, Crossing, want, OfferedAt, Ready, Spare, Starting, Linked}
 use Rattle.table.proofs.Moving.{passed-none, passed-more}
 use Rattle.table.proofs.Offering.{entries-same}
-use Rattle.table.proofs.TwoSides.{apart-there, not-root, not-passed, together}
+use Rattle.table.proofs.TwoSides.{count-more, together}
 
 -- a link that does not cross x leaves its record
 module _ (g : Net) (marks before : List ℕ) (e x : ℕ) where
@@ -65,191 +67,249 @@ joined true false y u v = refl
 joined false true y u v = refl
 joined false false y u v = refl
 
--- a link's two ends, told in either order
-pub record Ends (g : Net) (e y z : ℕ) : Type 0 where
-  one-in : y < g .nodes
-  two-in : z < g .nodes
-  pub differs : (x : ℕ) → under (treeOf g) x y ≡ true → under (treeOf g) x z ≡ false → differ (under (treeOf g) x (g .link e .first)) (under (treeOf g) x (g .link e .second)) ≡ true
-  lower-is : (x : ℕ) → under (treeOf g) x y ≡ true → under (treeOf g) x z ≡ false → lower (treeOf g) x (g .link e) ≡ y
+differ-turn : (x y : Bool) → differ x y ≡ differ y x
+differ-turn true true = refl
+differ-turn true false = refl
+differ-turn false true = refl
+differ-turn false false = refl
 
--- the nodes that two climbs from y and z have passed when they are at a and b
-abbrev passing : Tree → ℕ → ℕ → ℕ → ℕ → ℕ → Bool
-passing t y z a b v = has v (upTo a (route t y)) || has v (upTo b (route t z))
+-- a link's two ends, in one order or the other
+data Ends (l : Link) : ℕ → ℕ → Type 0 where
+  forth : Ends l (l .first) (l .second)
+  back : Ends l (l .second) (l .first)
 
--- between the beginning of the two climbs and their meeting
-pub record Between (g : Net) (n : ℕ) (marks : List ℕ) (e y z : ℕ) (row₀ : List ℕ) (a b : Side) (row : List ℕ) : Type 0 where
-  ca : Carries (treeOf g) y a
-  cb : Carries (treeOf g) z b
-  fa : (v : ℕ) → has v (upTo (a .climb .node) (route (treeOf g) y)) ≡ true → under (treeOf g) v z ≡ false
-  fb : (v : ℕ) → has v (upTo (b .climb .node) (route (treeOf g) z)) ≡ true → under (treeOf g) v y ≡ false
+ends-turn : {l : Link} {y z : ℕ} → Ends l y z → Ends l z y
+ends-turn forth = back
+ends-turn back = forth
+
+end-in : (g : Net) → Sound g → (e : ℕ) → e < g .links → {y z : ℕ} → Ends (g .link e) y z → y < treeOf g .size
+unfolding treeOf
+end-in g s e l forth = first-in g s e l
+end-in g s e l back = second-in g s e l
+
+module _ (t : Tree) where
+  end-differs : {l : Link} {y z : ℕ} → Ends l y z → (x : ℕ) → differ (under t x (l .first)) (under t x (l .second)) ≡ differ (under t x y) (under t x z)
+  end-differs forth x = refl
+  end-differs {l} back x = differ-turn (under t x (l .first)) (under t x (l .second))
+
+  end-lower : {l : Link} {y z : ℕ} → Ends l y z → (x : ℕ) → under t x y ≡ true → under t x z ≡ false → lower t x l ≡ y
+  unfolding lower
+  end-lower forth x p q = rw p
+  end-lower back x p q = rw q
+
+-- has a climb passed v?
+abbrev behind : Tree → Side → ℕ → Bool
+behind t a v = has v (upTo (a .climb .node) (route t (a .from)))
+
+-- a climb that has passed no node above where the other began
+record Apart (t : Tree) (a b : Side) : Type 0 where
+  carries : Carries t (a .from) a
+  free : (v : ℕ) → behind t a v ≡ true → under t v (b .from) ≡ false
+
+-- two climbs from the ends of a spare link, up to where they meet: the nodes passed have gone on from e links to one more
+pub record Between (g : Net) (n : ℕ) (marks : List ℕ) (e k : ℕ) (row₀ : List ℕ) (a b : Side) (row : List ℕ) : Type 0 where
+  fine : Sound g
+  nodes : treeOf g .size ≡ n
+  spare : Spare g e k
+  ends : Ends (g .link e) (a .from) (b .from)
+  one : Apart (treeOf g) a b
+  two : Apart (treeOf g) b a
   pub size : length row ≡ length row₀
-  pub rows : (before : List ℕ) → Entries n (want g marks before e) before row₀ → Entries n (λ v. cond (passing (treeOf g) y z (a .climb .node) (b .climb .node) v) (want g marks before (suc e) v) (want g marks before e v)) before row
+  rows : (before : List ℕ) → Entries n (want g marks before e) before row₀ → Entries n (λ v. cond (behind (treeOf g) a v || behind (treeOf g) b v) (want g marks before (suc e) v) (want g marks before e v)) before row
 
-pub between-turn : (g : Net) (n : ℕ) (marks : List ℕ) (e y z : ℕ) (row₀ : List ℕ) (a b : Side) (row : List ℕ) → Between g n marks e y z row₀ a b row → Between g n marks e z y row₀ b a row
-between-turn g n marks e y z row₀ a b row i =
-    record {
-      ca = i .cb;
-      cb = i .ca;
-      fa = i .fb;
-      fb = i .fa;
-      size = i .size;
-      rows =
-          λ before h.
-          entries-same _ _ _ before row
-          (λ v l. ap (λ (c : Bool). cond c (want g marks before (suc e) v) (want g marks before e v)) (or-swap (has v (upTo (a .climb .node) (route (treeOf g) y))) (has v (upTo (b .climb .node) (route (treeOf g) z)))))
-          (i .rows before h);
-    }
+-- how many nodes the two have on their routes, the root with each
+abbrev pub left : Tree → Side → Side → ℕ
+left t a b = length (route t (a .climb .node)) + length (route t (b .climb .node))
 
-module _ (links parents : List ℕ) (search : Search) (ok : netVerdict (netOf links parents search) ≡ Taken) (e k : ℕ) (s : Spare (netOf links parents search) e k) where
-  fine : Sound (netOf links parents search)
-  fine = sound (netOf links parents search) ok
+-- two climbs that have not met, the first with no more nodes below it than the second
+pub record Turn (g : Net) (n : ℕ) (marks : List ℕ) (e k : ℕ) (row₀ : List ℕ) (a b : Side) (row : List ℕ) (m : ℕ) : Type 0 where
+  between : Between g n marks e k row₀ a b row
+  few : count (treeOf g) (a .climb .node) ≤ count (treeOf g) (b .climb .node)
+  parted : a .climb .node ≡ b .climb .node → ⊥
+  left-is : left (treeOf g) a b ≡ m
 
-  one-in : netOf links parents search .link e .first < netOf links parents search .nodes
-  one-in = first-in (netOf links parents search) fine e (s .there)
+module _ (t : Tree) (y : ℕ) (a : Side) (c : Carries t y a) where
+  own : Carries t (a .from) a
+  own = subst (λ (v : ℕ). Carries t v a) (sym (c .from-is)) c
 
-  two-in : netOf links parents search .link e .second < netOf links parents search .nodes
-  two-in = second-in (netOf links parents search) fine e (s .there)
+  none-behind : Home t y → a .climb .node ≡ y → (v : ℕ) → behind t a v ≡ false
+  none-behind h q v = rw (q, c .from-is, passed-none t y h v)
 
-  pub straight : Ends (netOf links parents search) e (netOf links parents search .link e .first) (netOf links parents search .link e .second)
-  unfolding lower
-  straight = record { one-in = one-in; two-in = two-in; differs = λ x p q. rw (p, q); lower-is = λ x p q. rw p }
+module _ (links parents : List ℕ) (search : Search) (ok : netVerdict (netOf links parents search) ≡ Taken) where
+  abbrev g : Net
+  g = netOf links parents search
 
-  pub turned : Ends (netOf links parents search) e (netOf links parents search .link e .second) (netOf links parents search .link e .first)
-  unfolding lower
-  turned = record { one-in = two-in; two-in = one-in; differs = λ x p q. rw (p, q); lower-is = λ x p q. rw q }
+  fine : Sound g
+  fine = sound g ok
 
-  homes : (u : ℕ) → u < treeIn links parents search .size → Home (treeIn links parents search) u
-  homes = all-in links parents search ok
+  pub between-start : (e k : ℕ) → Spare g e k → (a b : Side) → Starting g e a b → (marks row : List ℕ) → Between g (length parents) marks e k row a b row
+  between-start e k s a b z marks row =
+      record {
+        fine = fine;
+        nodes = size-in links parents search;
+        spare = s;
+        ends = rw (z .one .from-is, z .two .from-is) forth;
+        one = record { carries = own _ _ a (z .one); free = λ v m. clash m (a-none v) };
+        two = record { carries = own _ _ b (z .two); free = λ v m. clash m (b-none v) };
+        size = refl;
+        rows = λ before h. entries-same _ _ _ before row (λ v l. rw (a-none v, b-none v)) h;
+      }
+    where
+      a-none : (v : ℕ) → behind (treeOf g) a v ≡ false
+      a-none = none-behind _ _ a (z .one) (home g fine _ (first-in g fine e (s .there))) (z .one-at)
 
-  module _ (marks row₀ : List ℕ) (y z : ℕ) (d : Ends (netOf links parents search) e y z) where
-    y-in : y < treeIn links parents search .size
-    unfolding treeOf
-    y-in = d .one-in
+      b-none : (v : ℕ) → behind (treeOf g) b v ≡ false
+      b-none = none-behind _ _ b (z .two) (home g fine _ (second-in g fine e (s .there))) (z .two-at)
 
-    z-in : z < treeIn links parents search .size
-    unfolding treeOf
-    z-in = d .two-in
-
-    y-home : Home (treeIn links parents search) y
-    y-home = homes y y-in
-
-    z-home : Home (treeIn links parents search) z
-    z-home = homes z z-in
-
-    pub between-start : (a b : Side) → Carries (treeIn links parents search) y a → a .climb .node ≡ y → Carries (treeIn links parents search) z b → b .climb .node ≡ z → Between (netOf links parents search) (length parents) marks e y z row₀ a b row₀
-    between-start a b ca an cb bn =
+module _ {g : Net} {n : ℕ} {marks : List ℕ} {e k : ℕ} {row₀ : List ℕ} where
+  module _ {a b : Side} {row : List ℕ} (i : Between g n marks e k row₀ a b row) where
+    -- what is said of the first climb holds of the second too
+    pub between-turn : Between g n marks e k row₀ b a row
+    between-turn =
         record {
-          ca = ca;
-          cb = cb;
-          fa = rw an (λ v m. clash m (passed-none (treeIn links parents search) y y-home v));
-          fb = rw bn (λ v m. clash m (passed-none (treeIn links parents search) z z-home v));
-          size = refl;
-          rows =
-              λ before h.
-              entries-same _ _ _ before row₀
-              (λ v l. rw (an, bn, passed-none (treeIn links parents search) y y-home v, passed-none (treeIn links parents search) z z-home v))
-              h;
+          fine = i .fine;
+          nodes = i .nodes;
+          spare = i .spare;
+          ends = ends-turn (i .ends);
+          one = i .two;
+          two = i .one;
+          size = i .size;
+          rows = λ before h. entries-same _ _ _ before row (λ v l. rw (or-swap (behind (treeOf g) a v) (behind (treeOf g) b v))) (i .rows before h);
         }
 
-    module _ (a b : Side) (row : List ℕ) (i : Between (netOf links parents search) (length parents) marks e y z row₀ a b row) where
-      a-in : a .climb .node < treeIn links parents search .size
-      a-in = under-below (treeIn links parents search) (closed-in links parents search ok) y (a .climb .node) y-home y-in (i .ca .along .on)
+    homes : (u : ℕ) → u < treeOf g .size → Home (treeOf g) u
+    unfolding treeOf
+    homes = home g (i .fine)
 
-      b-in : b .climb .node < treeIn links parents search .size
-      b-in = under-below (treeIn links parents search) (closed-in links parents search ok) z (b .climb .node) z-home z-in (i .cb .along .on)
+    from-in : a .from < treeOf g .size
+    from-in = end-in g (i .fine) e (i .spare .there) (i .ends)
 
-      pub a-node : a .climb .node < length parents
-      unfolding treeOf netOf
-      a-node = a-in
+    from-home : Home (treeOf g) (a .from)
+    from-home = homes (a .from) from-in
 
-      pub b-node : b .climb .node < length parents
-      unfolding treeOf netOf
-      b-node = b-in
+    node-on : under (treeOf g) (a .climb .node) (a .from) ≡ true
+    node-on = i .one .carries .along .on
 
-      pub fewer : (near counts bases turns : List ℕ) → Ready (treeIn links parents search) (length parents) near counts bases turns → (p q : ℕ) → p ≡ getD counts (a .climb .node) 0 → q ≡ getD counts (b .climb .node) 0 → p ≤ q → count (treeIn links parents search) (a .climb .node) ≤ count (treeIn links parents search) (b .climb .node)
-      fewer near counts bases turns r p q pe qe l =
-          omega (arith, pe ∙ r .counts .each (a .climb .node) a-node, qe ∙ r .counts .each (b .climb .node) b-node, l)
+    node-in : a .climb .node < treeOf g .size
+    node-in = under-below (treeOf g) (up-in g (i .fine)) (a .from) (a .climb .node) from-home from-in node-on
 
-      -- the first climb goes on where it is below no more nodes than the second
-      module _ (n : a .climb .node ≡ b .climb .node → ⊥) (few : count (treeIn links parents search) (a .climb .node) ≤ count (treeIn links parents search) (b .climb .node)) where
-        a-apart : under (treeIn links parents search) (a .climb .node) z ≡ false
-        a-apart = apart-there (treeIn links parents search) homes y z (a .climb .node) (b .climb .node) y-in z-in a-in b-in (i .ca .along .on) (i .cb .along .on) (i .fb) n few
+    node-low : a .climb .node < n
+    node-low = omega (arith, node-in, i .nodes)
 
-        a-off : eqb (a .climb .node) (treeIn links parents search .root) ≡ false
-        a-off = ne-eqb (a .climb .node) (treeIn links parents search .root) (not-root (treeIn links parents search) homes y z (a .climb .node) (b .climb .node) y-in z-in a-in b-in (i .ca .along .on) (i .cb .along .on) (i .fb) n few)
+  module _ {a b : Side} {row : List ℕ} (i : Between g n marks e k row₀ a b row) where
+    -- where they meet, every node that the link crosses was passed
+    module _ {p q : ℕ} (pe : p ≡ a .climb .node) (qe : q ≡ b .climb .node) (met : p ≡ q) where
+      meeting : a .climb .node ≡ meet (treeOf g) (a .from) (b .from)
+      meeting =
+          together (treeOf g) (a .from) (b .from) (a .climb .node) (node-on i)
+          (subst (λ (v : ℕ). under (treeOf g) v (b .from) ≡ true) (sym qe ∙ sym met ∙ pe) (node-on (between-turn i))) (i .one .free)
 
-        a-there : a .climb .node < netOf links parents search .nodes
-        unfolding netOf
-        a-there = a-node
+      path-is : (v : ℕ) → (behind (treeOf g) a v || behind (treeOf g) b v) ≡ onPath (treeOf g) (a .from) (b .from) v
+      unfolding onPath
+      path-is v = rw (sym qe ∙ sym met ∙ pe, meeting)
 
-        a-top : eqb (a .climb .node) (netOf links parents search .search .root) ≡ false
-        unfolding treeOf netOf
-        a-top = a-off
+      not-crossed : (v : ℕ) → (behind (treeOf g) a v || behind (treeOf g) b v) ≡ false → crosses (treeOf g) v e (g .link e) ≡ false
+      unfolding crosses
+      not-crossed v c =
+          rw (end-differs (treeOf g) (i .ends) v ∙ sym (on-path (treeOf g) _ _ v (from-home i) (from-home (between-turn i))) ∙ sym (path-is v) ∙ c)
+          (and-none (inService (g .link e) && not (eqb e (treeOf g .link v))))
 
-        pub not-top : a .climb .node ≡ search .root → ⊥
-        unfolding treeOf netOf
-        not-top = eqb-false (a .climb .node) (search .root) a-off
+      all-done : (before : List ℕ) (v : ℕ) (t : Bool) → (behind (treeOf g) a v || behind (treeOf g) b v) ≡ t → cond t (want g marks before (suc e) v) (want g marks before e v) ≡ want g marks before (suc e) v
+      all-done before v true c = refl
+      all-done before v false c = sym (want-kept g marks before e v (not-crossed v c))
 
-        pub carrying : Carries (treeIn links parents search) (a .from) a
-        carrying = subst (λ (v : ℕ). Carries (treeIn links parents search) v a) (sym (i .ca .from-is)) (i .ca)
+      pub between-end : Linked g n marks e row₀ row
+      between-end = record { goes-on = λ before h. entries-same _ _ _ before row (λ v l. all-done before v _ refl) (i .rows before h) }
 
-        pub from-in : a .from < length parents
-        unfolding netOf
-        from-in = rw (i .ca .from-is) (d .one-in)
+    module _ {near counts bases turns : List ℕ} (r : Ready (treeOf g) n near counts bases turns) where
+      pub counted : a .climb .node < length counts
+      counted = omega (arith, node-low i, r .counts .room)
 
-        pub crossing : Crossing (netOf links parents search) e a k
-        crossing =
+      -- the one with fewer nodes below it is next
+      module _ {x y : ℕ} (xe : x ≡ getD counts (b .climb .node) 0) (ye : y ≡ getD counts (a .climb .node) 0) {p q : ℕ} (pe : p ≡ a .climb .node) (qe : q ≡ b .climb .node) (f : p ≡ q → ⊥) where
+        pub first-next : y ≤ x → Turn g n marks e k row₀ a b row (left (treeOf g) a b)
+        first-next l =
             record {
-              there = s .there;
-              cross = spare-crosses (netOf links parents search) fine e k s (a .climb .node) a-there a-top ∙ d .differs (a .climb .node) (i .ca .along .on) a-apart;
-              low = d .lower-is (a .climb .node) (i .ca .along .on) a-apart ∙ sym (i .ca .from-is);
-              through-is = s .through-is;
+              between = i;
+              few = omega (arith, r .counts .each _ (node-low i), r .counts .each _ (node-low (between-turn i)), xe, ye, l);
+              parted = λ h. f (pe ∙ h ∙ sym qe);
+              left-is = refl;
             }
 
-        told : (before : List ℕ) (v : ℕ) → cond (eqb (a .climb .node) v) (want (netOf links parents search) marks before (suc e) v) (cond (passing (treeIn links parents search) y z (a .climb .node) (b .climb .node) v) (want (netOf links parents search) marks before (suc e) v) (want (netOf links parents search) marks before e v)) ≡ cond (passing (treeIn links parents search) y z (treeIn links parents search .up (a .climb .node)) (b .climb .node) v) (want (netOf links parents search) marks before (suc e) v) (want (netOf links parents search) marks before e v)
-        told before v = rw (passed-more (treeIn links parents search) y y-home (a .climb .node) (i .ca .along .on) a-off v) (joined (eqb (a .climb .node) v) (has v (upTo (a .climb .node) (route (treeIn links parents search) y))) (has v (upTo (b .climb .node) (route (treeIn links parents search) z))) _ _)
-
-        pub between-more : (row′ : List ℕ) → OfferedAt (netOf links parents search) (length parents) marks e (a .climb .node) row row′ → length row′ ≡ length row → (a′ : Side) → Carries (treeIn links parents search) (a .from) a′ → a′ .climb .node ≡ treeIn links parents search .up (a .climb .node) → Between (netOf links parents search) (length parents) marks e y z row₀ a′ b row′
-        between-more row′ o w a′ c q =
+        pub second-next : x < y → Turn g n marks e k row₀ b a row (left (treeOf g) a b)
+        second-next l =
             record {
-              ca = subst (λ (v : ℕ). Carries (treeIn links parents search) v a′) (i .ca .from-is) c;
-              cb = i .cb;
-              fa = rw q (λ v m. fresh v (rw (passed-more (treeIn links parents search) y y-home (a .climb .node) (i .ca .along .on) a-off v) at m));
-              fb = i .fb;
-              size = w ∙ i .size;
-              rows =
-                  λ before h.
-                  entries-same _ _ _ before row′
-                  (λ v l. rw q (told before v))
-                  (o .goes-on before _ (i .rows before h) (rw (not-passed (treeIn links parents search) homes y z (a .climb .node) (b .climb .node) y-in z-in a-in b-in (i .ca .along .on) (i .cb .along .on) (i .fb) n few) refl));
+              between = between-turn i;
+              few = omega (arith, r .counts .each _ (node-low i), r .counts .each _ (node-low (between-turn i)), xe, ye, l);
+              parted = λ h. f (pe ∙ sym h ∙ sym qe);
+              left-is = omega arith;
             }
-          where
-            fresh : (v : ℕ) → (has v (upTo (a .climb .node) (route (treeIn links parents search) y)) || eqb (a .climb .node) v) ≡ true → under (treeIn links parents search) v z ≡ false
-            fresh v m = either _ _ m (λ x. i .fa v x) (λ x y. subst (λ (w : ℕ). under (treeIn links parents search) w z ≡ false) (eqb-true (a .climb .node) v y) a-apart)
 
-        pub between-less : (v : ℕ) → v ≡ treeIn links parents search .up (a .climb .node) → length (route (treeIn links parents search) v) < length (route (treeIn links parents search) (a .climb .node))
-        between-less v q = rw q (omega (arith, shorter (treeIn links parents search) y y-home (a .climb .node) (i .ca .along .on) a-off))
+  -- the link crosses the node where the first is, and the first goes on
+  module _ {a b : Side} {row : List ℕ} {m : ℕ} (turn : Turn g n marks e k row₀ a b row m) where
+    i : Between g n marks e k row₀ a b row
+    i = turn .between
 
-  -- where they come together, every node that the link crosses was passed
-  module _ (marks row₀ : List ℕ) (a b : Side) (row : List ℕ) (i : Between (netOf links parents search) (length parents) marks e (netOf links parents search .link e .first) (netOf links parents search .link e .second) row₀ a b row) (q : a .climb .node ≡ b .climb .node) where
-    meeting : a .climb .node ≡ meet (treeIn links parents search) (netOf links parents search .link e .first) (netOf links parents search .link e .second)
-    meeting = together (treeIn links parents search) homes _ _ (a .climb .node) (i .ca .along .on) (subst (λ (v : ℕ). under (treeIn links parents search) v (netOf links parents search .link e .second) ≡ true) (sym q) (i .cb .along .on)) (i .fa)
+    not-over : under (treeOf g) (a .climb .node) (b .climb .node) ≡ false
+    not-over = not-so _ (λ q. omega (arith, count-more (treeOf g) (homes i) _ _ (node-in i) (node-in (between-turn i)) q (turn .parted), turn .few))
 
-    path-is : (v : ℕ) → passing (treeIn links parents search) (netOf links parents search .link e .first) (netOf links parents search .link e .second) (a .climb .node) (b .climb .node) v ≡ onPath (treeIn links parents search) (netOf links parents search .link e .first) (netOf links parents search .link e .second) v
-    unfolding onPath
-    path-is v = rw (← q, meeting)
+    not-behind : behind (treeOf g) b (a .climb .node) ≡ false
+    not-behind = not-so _ (λ q. clash (node-on i) (i .two .free _ q))
 
-    not-crossed : (v : ℕ) → passing (treeIn links parents search) (netOf links parents search .link e .first) (netOf links parents search .link e .second) (a .climb .node) (b .climb .node) v ≡ false → crosses (treeIn links parents search) v e (netOf links parents search .link e) ≡ false
-    unfolding crosses
-    not-crossed v c =
-        rw (sym (link-path (netOf links parents search) fine e v (s .there)) ∙ sym (path-is v) ∙ c) (and-none (inService (netOf links parents search .link e) && not (eqb e (treeIn links parents search .link v))))
+    off : under (treeOf g) (a .climb .node) (b .from) ≡ false
+    off = under-cut (treeOf g) _ (b .climb .node) _ (from-home (between-turn i)) (node-on (between-turn i)) ∙ ap₂ _||_ not-behind not-over
 
-    all-done : (before : List ℕ) (v : ℕ) (t : Bool) → passing (treeIn links parents search) (netOf links parents search .link e .first) (netOf links parents search .link e .second) (a .climb .node) (b .climb .node) v ≡ t → cond t (want (netOf links parents search) marks before (suc e) v) (want (netOf links parents search) marks before e v) ≡ want (netOf links parents search) marks before (suc e) v
-    all-done before v true c = refl
-    all-done before v false c = sym (want-kept (netOf links parents search) marks before e v (not-crossed v c))
+    below-root : a .climb .node ≡ treeOf g .root → ⊥
+    below-root q = clash (under-root (treeOf g) _ (from-home (between-turn i))) (subst (λ (v : ℕ). under (treeOf g) v (b .from) ≡ false) q off)
 
-    pub between-end : Linked (netOf links parents search) (length parents) marks e row₀ row
-    between-end =
+    off-root : eqb (a .climb .node) (treeOf g .root) ≡ false
+    off-root = ne-eqb (a .climb .node) (treeOf g .root) below-root
+
+    pub carrying : Carries (treeOf g) (a .from) a
+    carrying = i .one .carries
+
+    pub from-low : a .from < n
+    from-low = omega (arith, from-in i, i .nodes)
+
+    pub crossing : Crossing g e a k
+    unfolding treeOf
+    crossing =
         record {
-          goes-on = λ before h. entries-same _ _ _ before row (λ v l. all-done before v (passing (treeIn links parents search) _ _ (a .climb .node) (b .climb .node) v) refl) (i .rows before h);
+          there = i .spare .there;
+          cross = spare-crosses g (i .fine) e k (i .spare) _ (node-in i) off-root ∙ end-differs (treeOf g) (i .ends) _ ∙ rw (node-on i, off);
+          low = end-lower (treeOf g) (i .ends) _ (node-on i) off;
+          through-is = i .spare .through-is;
         }
+
+    pub between-less : {v : ℕ} → v ≡ treeOf g .up (a .climb .node) → length (route (treeOf g) v) + length (route (treeOf g) (b .climb .node)) < m
+    between-less q = rw q (omega (arith, shorter (treeOf g) (a .from) (from-home i) (a .climb .node) (node-on i) off-root, turn .left-is))
+
+    module _ {a′ : Side} (step : Carries (treeOf g) (a .from) a′ × (a′ .climb .node ≡ treeOf g .up (a .climb .node)) × (a′ .from ≡ a .from)) where
+      behind-more : (v : ℕ) → behind (treeOf g) a′ v ≡ (behind (treeOf g) a v || eqb (a .climb .node) v)
+      behind-more v = rw (step .1, step .2) (passed-more (treeOf g) (a .from) (from-home i) (a .climb .node) (node-on i) off-root v)
+
+      fresh : (v : ℕ) → (behind (treeOf g) a v || eqb (a .climb .node) v) ≡ true → under (treeOf g) v (b .from) ≡ false
+      fresh v m =
+          either _ _ m (λ x. i .one .free v x)
+          (λ x y. subst (λ (w : ℕ). under (treeOf g) w (b .from) ≡ false) (eqb-true (a .climb .node) v y) off)
+
+      pub between-more : {row′ : List ℕ} → OfferedAt g n marks e (a .climb .node) row row′ → length row′ ≡ length row → Between g n marks e k row₀ a′ b row′
+      between-more {row′} o w =
+          record {
+            fine = i .fine;
+            nodes = i .nodes;
+            spare = i .spare;
+            ends = rw (step .2) (i .ends);
+            one = record { carries = own _ _ a′ (step .0); free = λ v m. fresh v (sym (behind-more v) ∙ m) };
+            two = record { carries = i .two .carries; free = rw (step .2) (i .two .free) };
+            size = w ∙ i .size;
+            rows =
+                λ before h.
+                entries-same _ _ _ before row′
+                (λ v l. joined (eqb (a .climb .node) v) (behind (treeOf g) a v) (behind (treeOf g) b v) _ _ ∙ rw (behind-more v))
+                (o .goes-on before _ (i .rows before h) (rw (upTo-out (a .climb .node) (route (treeOf g) (a .from)), not-behind)));
+          }
+
+pub not-top : (links parents : List ℕ) (search : Search) {n : ℕ} {marks : List ℕ} {e k : ℕ} {row₀ : List ℕ} {a b : Side} {row : List ℕ} {m : ℕ} → Turn (netOf links parents search) n marks e k row₀ a b row m → a .climb .node ≡ search .root → ⊥
+unfolding treeOf netOf
+not-top links parents search turn = below-root turn

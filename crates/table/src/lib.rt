@@ -382,39 +382,26 @@ fn climb_link(
     let mut a = first;
     let mut b = second;
     while node_of(a) != node_of(b) {
-        if below(count, a) <= below(count, b) {
-            offer_at(
-                links,
-                parents,
-                search,
-                near,
-                count,
-                bases,
-                turns,
-                marks,
-                entries,
-                a,
-                e,
-                k,
-            );
-            a = step_side(a, links, parents, search, near, asides);
-        } else {
-            offer_at(
-                links,
-                parents,
-                search,
-                near,
-                count,
-                bases,
-                turns,
-                marks,
-                entries,
-                b,
-                e,
-                k,
-            );
-            b = step_side(b, links, parents, search, near, asides);
+        if below(count, b) < below(count, a) {
+            let other = a;
+            a = b;
+            b = other;
         }
+        offer_at(
+            links,
+            parents,
+            search,
+            near,
+            count,
+            bases,
+            turns,
+            marks,
+            entries,
+            a,
+            e,
+            k,
+        );
+        a = step_side(a, links, parents, search, near, asides);
     }
 }
 
