@@ -7,14 +7,14 @@ use native.Mathlib.Omega.{arith}
 use lib.ListN.{length, take, drop, replicate, length-replicate}
 use lib.Seq.{take-at}
 use Rattle.edition.specs.declared.Verdict.{Verdict}
-use Rattle.edition.specs.Limits.{nodeLimit, linkWidth, linkRoom}
+use Rattle.edition.specs.Limits.{nodeLimit, linkRoom}
 use Rattle.edition.proofs.Within.{edition-within}
 use Rattle.edition.specs.Stored.{storedNodes, storedLinks, editionLimits, blockBytes, entryBytes}
 use Rattle.rows.specs.Count.{rowsTo, rowWith}
 use Rattle.rows.proofs.Records.{rows-length}
-use Rattle.rows.specs.Records.{firstRecords, pastRecords}
+use Rattle.rows.specs.Records.{pastRecords}
 use Rattle.network.specs.declared.Link.{Link}
-use Rattle.network.specs.Network.{linksIn, linkRow, putLink, pastLinks, netOf}
+use Rattle.network.specs.Network.{linksIn, linkRow, putLink, frontLinks, pastLinks, netOf}
 use Rattle.network.proofs.Keeping.{rows-first, put-next}
 use Rattle.network.proofs.Sizes.{sized-nodes, sized-links}
 use Rattle.numbers.specs.Bytes.{numberIn}
@@ -86,10 +86,10 @@ module _ (file : List ℕ) (head : Header) (b : Blocked file head) where
       ∙ ap (λ (k : ℕ). rowsTo (λ x. numberIn file (entryPlace (linksRead file) x) 2 ∷ []) k ++ drop k before) nodes-is)
 
   module _ (zeros row : List ℕ) (q : row ≡ linksFrom file (head .links) zeros) (zeros′ row′ : List ℕ) (q′ : row′ ≡ rowWith (parentNumber file (head .links)) (head .nodes) zeros′) where
-    links-are : firstRecords linkWidth (head .links) row ≡ linksHeld file
+    links-are : frontLinks (head .links) row ≡ linksHeld file
     unfolding linksFrom linksHeld
     links-are =
-        ap (firstRecords linkWidth (head .links)) q
+        ap (frontLinks (head .links)) q
         ∙ (rows-first (storedLink file) (head .links) (pastLinks (head .links) zeros)
         ∙ ap (rowsTo (λ e. linkRow (storedLink file e))) links-is)
 
@@ -101,7 +101,7 @@ module _ (file : List ℕ) (head : Header) (b : Blocked file head) where
         ∙ ap (rowsTo (λ x. numberIn file (entryPlace (linksRead file) x) 2 ∷ [])) nodes-is)
 
     -- in the words of the code, whose parts are the first records
-    module _ (part : List ℕ) (e : part ≡ firstRecords linkWidth (head .links) row) (part′ : List ℕ) (e′ : part′ ≡ take (head .nodes) row′) where
+    module _ (part : List ℕ) (e : part ≡ frontLinks (head .links) row) (part′ : List ℕ) (e′ : part′ ≡ take (head .nodes) row′) where
       part-is : part ≡ linksHeld file
       part-is = e ∙ links-are
 

@@ -8,10 +8,10 @@ use lib.Seq.{sets}
 use borrow.Author.Tests.{lt-ltb, le-ltb}
 use Rattle.edition.specs.Limits.{linkWidth}
 use Rattle.rows.specs.Count.{rowsTo}
-use Rattle.rows.specs.Records.{withRecord, firstRecords, pastRecords, recordIn}
+use Rattle.rows.specs.Records.{withRecord, pastRecords, recordIn}
 use Rattle.rows.proofs.Put as put
 use Rattle.network.specs.declared.Link.{Link}
-use Rattle.network.specs.Network.{linksIn, linkRow, linkFrom, linkIn, putLink, pastLinks}
+use Rattle.network.specs.Network.{linksIn, linkRow, linkFrom, linkIn, putLink, frontLinks, pastLinks}
 
 pub link-sized : (l : Link) → length (linkRow l) ≡ linkWidth
 unfolding linkRow
@@ -95,7 +95,8 @@ module _ (f : ℕ → Link) where
       ap (λ (r : List ℕ). linkFrom (recordIn linkWidth r e)) (sym (append-nil (rowsTo (λ e. linkRow (f e)) m)))
       ∙ (ap linkFrom (put.rows-record linkWidth (λ e. linkRow (f e)) m (λ e l. sized e) [] (omega arith) e l) ∙ link-from (f e))
 
-  pub rows-first : (m : ℕ) (more : List ℕ) → firstRecords linkWidth m (rowsTo (λ e. linkRow (f e)) m ++ more) ≡ rowsTo (λ e. linkRow (f e)) m
+  pub rows-first : (m : ℕ) (more : List ℕ) → frontLinks m (rowsTo (λ e. linkRow (f e)) m ++ more) ≡ rowsTo (λ e. linkRow (f e)) m
+  unfolding frontLinks
   rows-first m more = put.rows-first linkWidth (λ e. linkRow (f e)) m (λ e l. sized e) more
 
   -- the next record, behind those that are put already

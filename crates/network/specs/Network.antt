@@ -8,7 +8,7 @@ use lib.ListN.{length, getD}
 use Rattle.edition.specs.declared.Search.{Search}
 use Rattle.edition.specs.Limits.{noLink, linkWidth, served}
 use Rattle.rows.specs.Count.{someTo}
-use Rattle.rows.specs.Records.{recordsIn, recordIn, withRecord, pastRecords}
+use Rattle.rows.specs.Records.{recordsIn, recordIn, withRecord, firstRecords, pastRecords}
 use Rattle.network.specs.declared.Link.{Link}
 
 -- n nodes and m links; the record of each link, the parent link of each node; root and depth.
@@ -38,6 +38,10 @@ linkIn row e = linkFrom (recordIn linkWidth row e)
 -- The row with this link in the record of link e; as it was where there is no such link.
 unfoldable pub putLink : List ℕ → ℕ → Link → List ℕ
 putLink row e l = withRecord linkWidth row e (linkRow l)
+
+-- The records of the first m links; all of the row where it holds fewer.
+unfoldable pub frontLinks : ℕ → List ℕ → List ℕ
+frontLinks m row = firstRecords linkWidth m row
 
 -- What lies past the records of the first m links.
 unfoldable pub pastLinks : ℕ → List ℕ → List ℕ

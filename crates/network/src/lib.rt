@@ -5,8 +5,7 @@ ghost use lib.ListN.{length, getD};
 ghost use Rattle.edition.specs.Limits.{noLink, linkLimit, linkWidth};
 ghost use Rattle.edition.specs.declared.Why.the-variants.{NodeCount, LinkCount, BadRoot, BadDepth, BadEnds, BadMark, BadParent};
 ghost use Rattle.rows.specs.First.{firstTo, refuseIf, refuseAt};
-ghost use Rattle.rows.specs.Records.{firstRecords};
-ghost use Rattle.network.specs.Network.{linksIn, linkIn, putLink, pastLinks, netOf, names, inService, touches as touchesIt, otherEnd};
+ghost use Rattle.network.specs.Network.{linksIn, linkIn, putLink, frontLinks, pastLinks, netOf, names, inService, touches as touchesIt, otherEnd};
 ghost use Rattle.network.specs.Records.{badNodes, badLinks, badRoot, badDepth, sizeVerdict, badEnds, badMark, unfit, badParent};
 use edition::Edition;
 use edition::Found;
@@ -33,7 +32,7 @@ pub fn links_in(links: &[u16]) -> usize
 
 // The records of the first m links: that part of the lent row, no copy; all of it where it holds fewer.
 pub fn first_links(links: &[u16], m: usize) -> &[u16]
-    ensures { λ r. ⌜ now r ≡ firstRecords linkWidth m (now (links .entry)) ⌝ }
+    ensures { λ r. ⌜ now r ≡ frontLinks m (now (links .entry)) ⌝ }
 {
     if links.len() / Memory::LINK < m {
         return links;

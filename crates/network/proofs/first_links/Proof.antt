@@ -6,11 +6,12 @@ use lib.Seq.{take-all}
 use borrow.Author.Needs.{needs}
 use Rattle.edition.specs.Limits.{linkWidth}
 use Rattle.rows.specs.Records.{firstRecords}
+use Rattle.network.specs.Network.{frontLinks}
 use Rattle.network.proofs.first_links.Statement.{statement}
 use Rattle.network.proofs.first_links.Tie as tie
 
 returns : tie.Need-returns
-unfolding firstRecords
+unfolding frontLinks firstRecords
 returns c = sym (take-all (c .before .before .args .m * linkWidth) (c .before .before .args .links .now) (omega arith))
 
 mul-first : tie.Need-mul-first
@@ -20,7 +21,7 @@ first-requires : tie.Need-first-requires
 first-requires c κs = search needs
 
 returns-2 : tie.Need-returns-2
-unfolding firstRecords
+unfolding frontLinks firstRecords
 returns-2 c = c .first .ensures
 
 pub first-links-spec : {M : Type 1} → statement M
