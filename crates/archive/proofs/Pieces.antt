@@ -1,15 +1,14 @@
--- A row as its pieces, and numbers in bytes and back. Assumes nothing.
+-- A row as its pieces. Assumes nothing.
 use mathlib.Core.Path.{_≡_, refl, sym, ap, _∙_}
 use mathlib.Core.List.{List, [], _∷_, _++_, append-nil}
-use Prim.Native.Nat.{ℕ, zero, suc, _+_, _*_, _/_, _%_, _<_, _≤_}
+use Prim.Native.Nat.{ℕ, zero, suc, _+_, _*_, _<_, _≤_}
 use native.Mathlib.Nat.{suc-mul, zero-mul}
 use native.Mathlib.Omega.{arith}
-use lib.ListN.{length, getD, take, drop, length-drop}
-use lib.Seq.{take-add, drop-drop, take-take, take-suc, getD-take, getD-drop}
+use lib.ListN.{length, getD, take, drop}
+use lib.Seq.{take-add, drop-drop, take-take, getD-take, getD-drop}
 use Rattle.rows.specs.Count.{rowsTo}
 use Rattle.rows.proofs.Records.{rows-at}
 use Rattle.edition.specs.Stored.{blockBytes, frontBytes}
-use Rattle.numbers.specs.Bytes.{bytesOf, numberIn}
 use Rattle.archive.specs.Reader.{blockAt}
 
 -- c pieces of n each are the front of the row
@@ -38,18 +37,6 @@ row-get f size h k x i d l m =
     ∙ ap (λ (r : List ℕ). getD r i d)
     (ap (λ (r : List ℕ). take size (drop (x * size) r)) (sym (append-nil (rowsTo f k))) ∙ rows-at f size h k [] x l))
 
--- a number that is read and written again gives the bytes that stand there
-pub number-back : (k : ℕ) (s : List ℕ) (i : ℕ) → ((j : ℕ) → getD s j 0 < 256) → i + k ≤ length s → bytesOf k (numberIn s i k) ≡ take k (drop i s)
-unfolding bytesOf numberIn
-number-back zero s i h l = refl
-number-back (suc k) s i h l =
-    let n = numberIn s i k in
-    let b = getD s (i + k) 0 in
-    let high : (n * 256 + b) / 256 ≡ n = omega (arith, h (i + k)) in
-    let low : (n * 256 + b) % 256 ≡ b = omega (arith, h (i + k)) in
-    rw (high, low, number-back k s i h (omega arith), ← getD-drop i s k 0)
-    (sym (take-suc (drop i s) k 0 (omega (arith, length-drop i s))))
-
 -- a record of a block is a part of the file
 pub record-part : (file : List ℕ) (i at size : ℕ) → frontBytes + at + size ≤ blockBytes → take size (drop at (drop frontBytes (blockAt file i))) ≡ take size (drop (i * blockBytes + frontBytes + at) file)
 unfolding blockAt
@@ -58,11 +45,3 @@ record-part file i at size h =
     ap (take size) (drop-drop at frontBytes (take blockBytes (drop (i * blockBytes) file)))
     ∙ (piece-of size (frontBytes + at) blockBytes (drop (i * blockBytes) file) (omega arith)
     ∙ ap (take size) (drop-drop (frontBytes + at) (i * blockBytes) file ∙ ap (λ (k : ℕ). drop k file) sum))
-
--- a number in a piece is that number in the row
-pub number-part : (s : List ℕ) (p k q w : ℕ) → q + w ≤ k → numberIn (take k (drop p s)) q w ≡ numberIn s (p + q) w
-unfolding numberIn
-number-part s p k q zero h = refl
-number-part s p k q (suc w) h =
-    let sum : p + (q + w) ≡ p + q + w = omega arith in
-    rw (number-part s p k q w (omega arith), getD-take k (drop p s) (q + w) 0 (omega arith), getD-drop p s (q + w) 0, sum)

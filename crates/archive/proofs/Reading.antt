@@ -12,7 +12,8 @@ use Rattle.numbers.specs.Bytes.{numberIn}
 use Rattle.record.specs.Record.{headerRecord, linkRecord}
 use Rattle.archive.specs.Parts.{linkPlace, entryPlace}
 use Rattle.archive.specs.Reader.{nodesRead, linksRead, searchRead, storedLink, linksHeld, parentsHeld, netRead}
-use Rattle.archive.proofs.Pieces.{join, number-back}
+use Rattle.numbers.proofs.Pieces.{number-back}
+use Rattle.archive.proofs.Pieces.{join}
 
 module _ (file : List ℕ) where
   -- as many nodes and links as the header says

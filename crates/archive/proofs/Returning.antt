@@ -29,7 +29,8 @@ use Rattle.record.specs.Record.{headerRecord, linkRecord, entryRecord}
 use Rattle.archive.specs.Parts.{linkPlace, entryPlace}
 use Rattle.archive.specs.Writer.{fileOf}
 use Rattle.archive.specs.Reader.{nodesRead, linksRead, searchRead, storedLink, linksHeld, parentsHeld, netRead}
-use Rattle.archive.proofs.Pieces.{row-get, number-part}
+use Rattle.numbers.proofs.Pieces.{number-part}
+use Rattle.archive.proofs.Pieces.{row-get}
 use Rattle.archive.proofs.Filed.{header-there, link-there, entry-there}
 
 -- four numbers of 16 bits, read back

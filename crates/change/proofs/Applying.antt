@@ -98,10 +98,6 @@ module _ (links parents : List ℕ) (search : Search) (entries : List ℕ) (c : 
   pub apply-sound : netVerdict (netOf links parents search) ≡ Taken
   apply-sound = taken (netOf links parents search) (a .before)
 
-  pub apply-there : c .link < linksIn links
-  unfolding netOf
-  apply-there = a .there
-
   few : length parents ≤ nodeLimit
   unfolding netOf
   few = nodes-few (netOf links parents search) (a .before)

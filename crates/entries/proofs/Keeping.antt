@@ -70,9 +70,6 @@ module _ (f : ℕ → List ℕ) (n : ℕ) (sized : (x : ℕ) → x < n → Sized
   unfolding pastEntries
   rows-past = put.rows-past entryWidth f n sized more
 
-  pub rows-room : n ≤ entriesIn (rowsTo f n ++ more)
-  rows-room = put.rows-count entryWidth f n sized more (omega arith)
-
   pub rows-standing : (x : ℕ) → x < n → standing (rowsTo f n ++ more) x ≡ f x
   unfolding standing
   rows-standing x l = put.rows-record entryWidth f n sized more (omega arith) x l

@@ -1,2 +1,3 @@
 pub mod Getting
+pub mod Pieces
 pub mod Putting

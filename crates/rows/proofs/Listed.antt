@@ -1,11 +1,11 @@
--- What is in a list, a list up to one of its numbers, where two lists first meet, and numbers that are set. Assumes nothing.
+-- What is in a list, a list up to one of its numbers, and where two lists first meet. Assumes nothing.
 use mathlib.Core.Path.{_≡_, refl, sym, subst, ap, _∙_}
 use mathlib.Core.Bool.{Bool, true, false, _||_}
 use mathlib.Core.List.{List, [], _∷_, _++_}
-use Prim.Native.Nat.{ℕ, zero, suc, _+_, _*_, _≤_}
+use Prim.Native.Nat.{ℕ, _+_, _*_, _≤_}
 use native.Mathlib.Omega.{arith}
 use lib.Dec.{eqb}
-use lib.ListN.{length, set}
+use lib.ListN.{length}
 use borrow.Author.Tests.{eqb-true, eq-eqb, ne-eqb}
 use Rattle.rows.specs.Lists.{has, upTo, firstOf, total, same}
 use Rattle.rows.proofs.Tests.{clash, either, or-right, or-assoc, or-false, and-left, and-right}
@@ -128,11 +128,3 @@ pub equal-same : (a : List ℕ) → same a a ≡ true
 unfolding same
 equal-same [] = refl
 equal-same (x ∷ xs) = rw (eq-eqb x x refl) (equal-same xs)
-
--- numbers set at different places, in either order
-pub set-swap : (l : List ℕ) (i j a b : ℕ) → (i ≡ j → ⊥) → set (set l i a) j b ≡ set (set l j b) i a
-set-swap [] i j a b n = refl
-set-swap (x ∷ xs) zero zero a b n = absurd (n refl)
-set-swap (x ∷ xs) zero (suc j) a b n = refl
-set-swap (x ∷ xs) (suc i) zero a b n = refl
-set-swap (x ∷ xs) (suc i) (suc j) a b n = ap (λ (r : List ℕ). x ∷ r) (set-swap xs i j a b (λ e. n (ap suc e)))

@@ -75,10 +75,6 @@ module _ (w : ℕ) (row : List ℕ) where
   unfolding pastRecords
   row-records n h = rw (front n h) (sym (take-append-drop (n * w) row))
 
-  pub first-are : (n : ℕ) → n ≤ recordsIn w row → firstRecords w n row ≡ rowsTo (recordIn w row) n
-  unfolding firstRecords
-  first-are n h = sym (front n h)
-
 module _ (w : ℕ) (row : List ℕ) (k : ℕ) (new : List ℕ) where
   put-is : k < recordsIn w row → withRecord w row k new ≡ sets row (k * w) new
   unfolding withRecord
