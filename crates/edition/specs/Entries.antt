@@ -3,6 +3,8 @@ use mathlib.Core.List.{List, [], _∷_}
 use Prim.Native.Nat.{ℕ}
 use Rattle.edition.specs.declared.Swap.{Swap}
 use Rattle.edition.specs.declared.Entry.{Entry}
+use Rattle.edition.specs.declared.Measure.{Measure}
+use Rattle.edition.specs.declared.Measure.the-variants.{Sum, Incr, Max}
 use Rattle.edition.specs.Limits.{noLink}
 
 -- The states: 0 root; 1 swap; 2 links cross but none within the depth; 3 bridge, nothing crosses.
@@ -25,6 +27,12 @@ noSwap = record { link = noLink; cost = 0 }
 -- An entry that has no links and costs.
 abbrev pub blank : ℕ → Entry
 blank state = record { state = state; sum = noSwap; incr = noSwap; max = noSwap }
+
+-- The swap link of an entry under a measure.
+abbrev pub swapBy : Entry → Measure → Swap
+swapBy e Sum = e .sum
+swapBy e Incr = e .incr
+swapBy e Max = e .max
 
 -- The numbers of an entry's record: state, links for sum, incr and max, costs for sum, incr and max.
 unfoldable pub entryRow : Entry → List ℕ

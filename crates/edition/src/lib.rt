@@ -3,7 +3,7 @@ ghost use mathlib.Core.Path.{_≡_};
 ghost use Rattle.edition.specs.Limits.{noLink, noNode, memoryLimits};
 ghost use Rattle.edition.specs.Stored.{editionLimits};
 ghost use Rattle.edition.specs.Refusals.{numberOf};
-ghost use Rattle.edition.specs.Entries.{noSwap, blank};
+ghost use Rattle.edition.specs.Entries.{noSwap, blank, swapBy};
 
 // Why something is refused: a case for each number of document 01's list.
 pub enum Why {
@@ -246,6 +246,17 @@ impl Memory {
             links: Memory::LINKS,
             depth: Memory::DEPTH,
         }
+    }
+}
+
+// The swap link of an entry under a measure.
+pub fn swap_by(entry: Entry, measure: Measure) -> Swap
+    ensures { λ r. ⌜ r ≡ swapBy entry measure ⌝ }
+{
+    match measure {
+        Measure::Sum => entry.sum,
+        Measure::Incr => entry.incr,
+        Measure::Max => entry.max,
     }
 }
 
