@@ -3,16 +3,22 @@
 ghost use mathlib.Core.Path.{_≡_};
 ghost use mathlib.Core.Bool.{true, false};
 ghost use Prim.Native.Nat.{_+_, _≤_};
+ghost use lib.Dec.{leb};
 ghost use lib.ListN.{length};
+ghost use Rattle.desk.specs.Longest.{longestFile, longestText};
+use edition::Edition;
 use edition::Refusal;
+use edition::Why;
 
-// The longest name of a file, and the longest text, in bytes.
+// The longest name of a file, the longest file that is read or written, and the longest text, in bytes.
 pub struct Desk {
     pub name: usize,
 }
 
 impl Desk {
     pub const NAME: usize = 4000;
+
+    pub const FILE: usize = Edition::FILE_BYTES;
 
     pub const TEXT: usize = 131072;
 }
@@ -112,6 +118,32 @@ pub fn refused_at(name: &[u8], line: usize, refusal: Refusal) -> bool
     say_place(name, line);
     say_refusal(refusal);
     false
+}
+
+// Whether a file of so many bytes is within the longest; where it is not, refusal 20 is said.
+pub fn file_fits(name: &[u8], size: usize) -> bool
+    ensures { λ r. ⌜ r ≡ leb size longestFile ⌝ }
+{
+    if size <= Desk::FILE {
+        return true;
+    }
+    refused(
+        name,
+        Refusal {
+            why: Why::BadLength,
+            place: 0,
+        },
+    )
+}
+
+// Whether a text is within the longest; where it is not, that is said.
+pub fn text_fits(name: &[u8], text: &[u8]) -> bool
+    ensures { λ r. ⌜ r ≡ leb (length (now (text .entry))) longestText ⌝ }
+{
+    if text.len() <= Desk::TEXT {
+        return true;
+    }
+    complain(name, b"the text is too long")
 }
 
 // Reads the file, or as much of it as the room holds, and answers how many bytes that is. Where it cannot be opened, that is

@@ -1,15 +1,15 @@
 // Document 01's listing of what a file holds, printed by way of a lent buffer.
 ghost use mathlib.Core.Path.{_≡_};
-ghost use Prim.Native.Nat.{_*_, _≤_, _<_};
+ghost use Prim.Native.Nat.{_≤_};
 ghost use lib.ListN.{length};
-ghost use Rattle.edition.specs.Limits.{nodeLimit, entryWidth};
 use archive::Header;
 use edition::Edition;
-use edition::Memory;
+use edition::Entry;
+use edition::Swap;
 use map::Unprotected;
 
-// Measures of an entry. Its links, and then its costs, stand behind its state.
-const MEASURES: usize = 3;
+// The longest file that is listed: a longer one is refusal 20, place 0, before any other check.
+pub const LISTED_BYTES: usize = Edition::FILE_BYTES;
 
 // Prints a depth behind a space: `whole`, or a number.
 pub fn put_depth(out: &mut [u8], at: usize, depth: u16) -> usize
@@ -40,52 +40,43 @@ fn put_header(out: &mut [u8], at: usize, header: Header) -> usize {
     output::put_newline(out, depth)
 }
 
-// Prints the number at a place of the row of entries.
-fn put_number(out: &mut [u8], at: usize, entries: &[u64], place: usize) -> usize {
-    output::put_field(out, at, rows::wide_at(entries, place))
+// Prints a swap link and its cost.
+fn put_swap(out: &mut [u8], at: usize, swap: Swap) -> usize {
+    let linked = output::put_field(out, at, swap.link);
+    output::put_field(out, linked, swap.cost)
 }
 
-// Prints, for sum, incr and max, the swap link and its cost. The entry's numbers begin at a place of the row.
-fn put_swaps(out: &mut [u8], at: usize, entries: &[u64], from: usize) -> usize
-    requires { ⌜ from ≤ nodeLimit * entryWidth ⌝ }
+// Prints the swap links for sum, incr and max with their costs.
+fn put_swaps(out: &mut [u8], at: usize, entry: Entry) -> usize
     ensures { λ r. ⌜ r ≤ length (now (out .exit)) ⌝ }
 {
-    let mut waits = output::put(out, at, b" swap");
-    let mut i = 1;
-    while i <= MEASURES {
-        let linked = put_number(out, waits, entries, from + i);
-        waits = put_number(out, linked, entries, from + MEASURES + i);
-        i += 1;
-    }
-    output::put_newline(out, waits)
+    let named = output::put(out, at, b" swap");
+    let sum = put_swap(out, named, entry.sum);
+    let incr = put_swap(out, sum, entry.incr);
+    let max = put_swap(out, incr, entry.max);
+    output::put_newline(out, max)
 }
 
-// Prints the state of node x and, where it is a swap, the links and costs.
-fn put_state(out: &mut [u8], at: usize, entries: &[u64], x: usize) -> usize
-    requires { ⌜ x < nodeLimit ⌝ }
+// Prints the state of an entry and, where it is a swap, the links and costs.
+fn put_state(out: &mut [u8], at: usize, entry: Entry) -> usize
     ensures { λ r. ⌜ r ≤ length (now (out .exit)) ⌝ }
 {
-    let from = x * Memory::ENTRY;
-    let state = rows::wide_at(entries, from);
-    if state == Edition::SWAP {
-        return put_swaps(out, at, entries, from);
+    if entry.state == Edition::SWAP {
+        return put_swaps(out, at, entry);
     }
-    if state == Edition::NONE {
+    if entry.state == Edition::NONE {
         return output::put(out, at, b" none\n");
     }
     output::put(out, at, b" bridge\n")
 }
 
-// Prints the line of node x, which is not the root; nothing where x is over the limit on nodes.
+// Prints the line of node x, which is not the root.
 pub fn put_node(out: &mut [u8], at: usize, x: usize, parents: &[u16], entries: &[u64]) -> usize
     ensures { λ r. ⌜ r ≤ length (now (out .exit)) ⌝ }
 {
-    if Memory::NODES <= x {
-        return output::flush(out, at);
-    }
     let named = output::put_number(out, at, x as u64);
-    let linked = output::put_field(out, named, rows::at(parents, x, Edition::NO_LINK) as u64);
-    put_state(out, linked, entries, x)
+    let linked = output::put_field(out, named, network::parent_of(parents, x) as u64);
+    put_state(out, linked, entries::entry_at(entries, x))
 }
 
 // Prints the line of node x; the root has none.

@@ -1,42 +1,36 @@
 // swapdot FILE [sum|incr|max]: draws the network of a file for Graphviz, with the swap links of one measure, sum where none is
 // named.
-ghost use Prim.Native.Nat.{_*_, _≤_, _<_};
-ghost use lib.ListN.{length};
-ghost use Rattle.edition.specs.Limits.{nodeLimit};
 use archive::Header;
 use archive::ReadAnswer;
 use desk::Desk;
 use desk::Got;
 use edition::Edition;
+use edition::Entry;
+use edition::Measure;
 use edition::Memory;
-use edition::Refusal;
 use edition::Search;
-use edition::Why;
 use network::Link;
 
 // Bytes of the buffer that what is printed waits in.
 const OUT: usize = 8192;
 
-// Where an entry has the swap link of each measure.
-const SUM: usize = 1;
-
-const INCR: usize = 2;
-
-const MAX: usize = 3;
+// The measure that a word names, where it names one.
+enum Asked {
+    By(Measure),
+    Nothing,
+}
 
 // Prints the name of a measure.
-fn put_measure(out: &mut [u8], at: usize, measure: usize) -> usize {
-    if measure == SUM {
-        return output::put(out, at, b"sum");
+fn put_measure(out: &mut [u8], at: usize, measure: Measure) -> usize {
+    match measure {
+        Measure::Sum => output::put(out, at, b"sum"),
+        Measure::Incr => output::put(out, at, b"incr"),
+        Measure::Max => output::put(out, at, b"max"),
     }
-    if measure == INCR {
-        return output::put(out, at, b"incr");
-    }
-    output::put(out, at, b"max")
 }
 
 // Prints the first lines: the title with the root, the depth and the measure.
-fn put_title(out: &mut [u8], at: usize, search: Search, measure: usize) -> usize {
+fn put_title(out: &mut [u8], at: usize, search: Search, measure: Measure) -> usize {
     let opened = output::put(out, at, b"graph swaps {\n    label = \"root");
     let root = output::put_field(out, opened, search.root as u64);
     let named = output::put(out, root, b", depth");
@@ -46,27 +40,18 @@ fn put_title(out: &mut [u8], at: usize, search: Search, measure: usize) -> usize
     output::put(out, told, b"\";\n    node [shape = circle];\n")
 }
 
-// The number at a place of the entry of node x.
-fn entry_at(entries: &[u64], x: usize, place: usize) -> u64
-    requires { ⌜ (x < nodeLimit) × (place ≤ 3) ⌝ }
-{
-    rows::wide_at(entries, x * Memory::ENTRY + place)
-}
-
 // Prints what is said of a node behind its number: its swap link, or that it has none.
-fn put_state(out: &mut [u8], at: usize, entries: &[u64], x: usize, measure: usize) -> usize
-    requires { ⌜ (x < nodeLimit) × (measure ≤ 3) ⌝ }
-{
-    let state = entry_at(entries, x, 0);
-    if state == Edition::ROOT {
+fn put_state(out: &mut [u8], at: usize, entry: Entry, measure: Measure) -> usize {
+    if entry.state == Edition::ROOT {
         return output::put(out, at, b"\\nroot\", shape = doublecircle];\n");
     }
-    if state == Edition::SWAP {
+    if entry.state == Edition::SWAP {
+        let swap = edition::swap_by(entry, measure);
         let named = output::put(out, at, b"\\nswap");
-        let linked = output::put_field(out, named, entry_at(entries, x, measure));
+        let linked = output::put_field(out, named, swap.link);
         return output::put(out, linked, b"\"];\n");
     }
-    if state == Edition::NONE {
+    if entry.state == Edition::NONE {
         return output::put(
             out,
             at,
@@ -77,22 +62,16 @@ fn put_state(out: &mut [u8], at: usize, entries: &[u64], x: usize, measure: usiz
 }
 
 // Prints the line of node x. One without a swap link, which is unprotected, is filled.
-fn put_node(out: &mut [u8], at: usize, entries: &[u64], x: usize, measure: usize) -> usize {
-    if Memory::NODES <= x {
-        return at;
-    }
-    if MAX < measure {
-        return at;
-    }
+fn put_node(out: &mut [u8], at: usize, entries: &[u64], x: usize, measure: Measure) -> usize {
     let begun = output::put(out, at, b"    ");
     let named = output::put_number(out, begun, x as u64);
     let labelled = output::put(out, named, b" [label = \"");
     let told = output::put_number(out, labelled, x as u64);
-    put_state(out, told, entries, x, measure)
+    put_state(out, told, entries::entry_at(entries, x), measure)
 }
 
 // Prints the lines of all nodes.
-fn put_nodes(out: &mut [u8], at: usize, entries: &[u64], n: usize, measure: usize) -> usize {
+fn put_nodes(out: &mut [u8], at: usize, entries: &[u64], n: usize, measure: Measure) -> usize {
     let mut waits = at;
     let mut x = 0;
     while x < n {
@@ -102,34 +81,18 @@ fn put_nodes(out: &mut [u8], at: usize, entries: &[u64], n: usize, measure: usiz
     waits
 }
 
-// Whether link e is the parent link of a node.
-fn is_tree(parents: &[u16], e: usize) -> bool {
-    let mut u = 0;
-    while u < parents.len() {
-        if rows::at(parents, u, Edition::NO_LINK) as usize == e {
-            return true;
-        }
-        u += 1;
-    }
-    false
-}
-
 // Whether link e is the swap link of node x.
-fn is_swap_of(entries: &[u64], x: usize, e: usize, measure: usize) -> bool {
-    if Memory::NODES <= x {
+fn is_swap_of(entries: &[u64], x: usize, e: usize, measure: Measure) -> bool {
+    let entry = entries::entry_at(entries, x);
+    if entry.state != Edition::SWAP {
         return false;
     }
-    if MAX < measure {
-        return false;
-    }
-    if entry_at(entries, x, 0) != Edition::SWAP {
-        return false;
-    }
-    entry_at(entries, x, measure) == e as u64
+    let swap = edition::swap_by(entry, measure);
+    swap.link == e as u64
 }
 
 // Whether link e is the swap link of a node.
-fn is_swap(entries: &[u64], n: usize, e: usize, measure: usize) -> bool {
+fn is_swap(entries: &[u64], n: usize, e: usize, measure: Measure) -> bool {
     let mut x = 0;
     while x < n {
         if is_swap_of(entries, x, e, measure) {
@@ -148,12 +111,12 @@ fn put_style(
     parents: &[u16],
     entries: &[u64],
     e: usize,
-    measure: usize,
+    measure: Measure,
 ) -> usize {
     if !network::in_service(link) {
         return output::put(out, at, b"style = dotted");
     }
-    if is_tree(parents, e) {
+    if network::is_parent(parents, e) {
         return output::put(out, at, b"penwidth = 3");
     }
     if is_swap(entries, parents.len(), e, measure) {
@@ -187,7 +150,7 @@ fn put_link(
     parents: &[u16],
     entries: &[u64],
     e: usize,
-    measure: usize,
+    measure: Measure,
 ) -> usize {
     let link = network::link_at(links, e);
     let ends = put_ends(out, at, link);
@@ -204,7 +167,7 @@ fn put_links(
     parents: &[u16],
     entries: &[u64],
     m: usize,
-    measure: usize,
+    measure: Measure,
 ) -> usize {
     let mut waits = at;
     let mut e = 0;
@@ -216,7 +179,7 @@ fn put_links(
 }
 
 // Draws an accepted file.
-fn draw(header: Header, links: &[u16], parents: &[u16], entries: &[u64], measure: usize) {
+fn draw(header: Header, links: &[u16], parents: &[u16], entries: &[u64], measure: Measure) {
     let mut out = [0u8; OUT];
     let held = rows::first(parents, header.nodes);
     let titled = put_title(&mut out, 0, header.search, measure);
@@ -227,10 +190,10 @@ fn draw(header: Header, links: &[u16], parents: &[u16], entries: &[u64], measure
 }
 
 // Draws the file in the first bytes of a row, or says why it is refused.
-fn draw_file(name: &[u8], file: &[u8], measure: usize) -> bool {
-    let mut links = [0u16; Memory::LINKS * Memory::LINK];
+fn draw_file(name: &[u8], file: &[u8], measure: Measure) -> bool {
+    let mut links = [0u16; Memory::LINK_ROW];
     let mut parents = [0u16; Memory::NODES];
-    let mut entries = [0u64; Memory::NODES * Memory::ENTRY];
+    let mut entries = [0u64; Memory::ENTRY_ROW];
     match archive::read(file, &mut links, &mut parents, &mut entries) {
         ReadAnswer::Is(header) => {
             draw(header, &links, &parents, &entries, measure);
@@ -241,15 +204,9 @@ fn draw_file(name: &[u8], file: &[u8], measure: usize) -> bool {
 }
 
 // The same for the first bytes of a row.
-fn draw_bytes(name: &[u8], row: &[u8], size: usize, measure: usize) -> bool {
-    if Edition::FILE_BYTES < size {
-        return desk::refused(
-            name,
-            Refusal {
-                why: Why::BadLength,
-                place: 0,
-            },
-        );
+fn draw_bytes(name: &[u8], row: &[u8], size: usize, measure: Measure) -> bool {
+    if !desk::file_fits(name, size) {
+        return false;
     }
     if row.len() < size {
         return false;
@@ -258,34 +215,33 @@ fn draw_bytes(name: &[u8], row: &[u8], size: usize, measure: usize) -> bool {
 }
 
 // Draws the file of a name.
-fn run(name: &[u8], measure: usize) -> bool {
-    let mut row = [0u8; Edition::FILE_BYTES + 1];
+fn run(name: &[u8], measure: Measure) -> bool {
+    let mut row = [0u8; Desk::FILE + 1];
     match desk::read(name, &mut row) {
         Got::Is(size) => draw_bytes(name, &row, size, measure),
         Got::Not => false,
     }
 }
 
-// The measure that a word names; 0 where it names none.
-fn measure_of(word: &[u8]) -> usize {
+// The measure that a word names.
+fn measure_of(word: &[u8]) -> Asked {
     if text::is_word(word, b"sum") {
-        return SUM;
+        return Asked::By(Measure::Sum);
     }
     if text::is_word(word, b"incr") {
-        return INCR;
+        return Asked::By(Measure::Incr);
     }
     if text::is_word(word, b"max") {
-        return MAX;
+        return Asked::By(Measure::Max);
     }
-    0
+    Asked::Nothing
 }
 
 // Draws the file of a name by the measure of a word.
 fn run_by(name: &[u8], word: &[u8]) -> bool {
-    let measure = measure_of(word);
-    if measure == 0 {
+    let Asked::By(measure) = measure_of(word) else {
         return desk::complain(word, b"expected `sum`, `incr` or `max`");
-    }
+    };
     run(name, measure)
 }
 
@@ -295,7 +251,7 @@ fn main() {
     let name = os::arg(1, &mut first);
     let word = os::arg(2, &mut second);
     if os::arg_count() == 2 {
-        run(&first[..name], SUM);
+        run(&first[..name], Measure::Sum);
         return;
     }
     if os::arg_count() == 3 {

@@ -1,13 +1,12 @@
 // swapfile TEXT FILE: makes the file of a network and depth that are written in plain text, or says why not.
-ghost use Prim.Native.Nat.{_<_, _≤_};
-ghost use lib.ListN.{length};
-ghost use Rattle.edition.specs.Limits.{linkLimit};
 use archive::WriteAnswer;
 use desk::Desk;
 use desk::Got;
 use edition::Edition;
 use edition::Memory;
 use edition::Search;
+use network::Link;
+use text::Cursor;
 use text::Line;
 use text::Word;
 
@@ -64,24 +63,6 @@ fn lacking(told: Told, lack: u8) -> Told {
     }
 }
 
-// Writes a number at a place of the row, where the row has it.
-fn put(row: &mut [u16], place: usize, number: u16) {
-    if place < row.len() {
-        row[place] = number;
-    }
-}
-
-// Writes the record of link e.
-fn put_link(row: &mut [u16], e: usize, first: u16, second: u16, length: u16, mark: u16)
-    requires { ⌜ e < linkLimit ⌝ }
-{
-    let from = e * Memory::LINK;
-    put(row, from, first);
-    put(row, from + 1, second);
-    put(row, from + 2, length);
-    put(row, from + 3, mark);
-}
-
 // What a line lacks that should have ended with this word.
 fn end_lack(word: u32) -> u8 {
     if word == Word::NONE {
@@ -120,13 +101,15 @@ fn take_link(line: Line, told: Told, links: &mut [u16]) -> Told {
         return lacking(told, Lack::NUMBER);
     }
     let lack = service_lack(line.e, line.rest);
-    put_link(
+    network::put_link(
         links,
         e,
-        line.b as u16,
-        line.c as u16,
-        line.d as u16,
-        text::mark_of(line.e),
+        Link {
+            first: line.b as u16,
+            second: line.c as u16,
+            length: line.d as u16,
+            mark: text::mark_of(line.e),
+        },
     );
     Told {
         nodes: told.nodes,
@@ -140,9 +123,16 @@ fn take_link(line: Line, told: Told, links: &mut [u16]) -> Told {
 // The parent link that a word names; `root` names none.
 fn parent_of(word: u32) -> u16 {
     if Word::MOST < word {
-        return Edition::NO_LINK;
+        return Edition::no_link();
     }
     word as u16
+}
+
+// Writes the parent link of node u, where the row has that node.
+fn put_parent(parents: &mut [u16], u: usize, parent: u16) {
+    if u < parents.len() {
+        parents[u] = parent;
+    }
 }
 
 // What the last words of a node's line lack.
@@ -165,7 +155,7 @@ fn take_node(line: Line, told: Told, parents: &mut [u16]) -> Told {
     if line.a as usize != u {
         return lacking(told, Lack::NODE);
     }
-    put(parents, u, parent_of(line.b));
+    put_parent(parents, u, parent_of(line.b));
     Told {
         nodes: u + 1,
         links: told.links,
@@ -288,7 +278,7 @@ fn say_lack(name: &[u8], line: usize, told: Told) -> bool {
 
 // Makes the file of the network, or says why it is refused.
 fn store(from: &[u8], to: &[u8], links: &[u16], parents: &[u16], search: Search) -> bool {
-    let mut file = [0u8; Edition::FILE_BYTES];
+    let mut file = [0u8; Desk::FILE];
     match archive::write(links, parents, search, &mut file) {
         WriteAnswer::Is(size) => desk::write_new(to, &file, size),
         WriteAnswer::Not(refusal) => desk::refused(from, refusal),
@@ -321,8 +311,8 @@ fn finish(from: &[u8], to: &[u8], told: Told, links: &[u16], parents: &[u16]) ->
 
 // Takes the lines one after the other, and makes the file of what they told; says what the first lacks that lacks something.
 fn take_text(from: &[u8], to: &[u8], text: &[u8], links: &mut [u16], parents: &mut [u16]) -> bool {
-    if Desk::TEXT < text.len() {
-        return desk::complain(from, b"the text is too long");
+    if !desk::text_fits(from, text) {
+        return false;
     }
     let mut told = Told {
         nodes: 0,
@@ -331,14 +321,14 @@ fn take_text(from: &[u8], to: &[u8], text: &[u8], links: &mut [u16], parents: &m
         depth: Word::NONE,
         lack: Lack::NOTHING,
     };
-    let mut at = 0;
-    while at < text.len() {
-        let end = text::line_end(text, at);
-        told = take_line(text::line_of(text, at, end), told, links, parents);
+    let mut cursor = Cursor::begin();
+    while cursor.at < text.len() {
+        let step = cursor.next_line(text);
+        told = take_line(step.line, told, links, parents);
         if told.lack != Lack::NOTHING {
-            return say_lack(from, text::line_number(text, at), told);
+            return say_lack(from, cursor.number, told);
         }
-        at = end + 1;
+        cursor = step.next;
     }
     finish(from, to, told, links, parents)
 }
@@ -348,7 +338,7 @@ fn take_bytes(from: &[u8], to: &[u8], row: &[u8], size: usize) -> bool {
     if row.len() < size {
         return false;
     }
-    let mut links = [0u16; Memory::LINKS * Memory::LINK];
+    let mut links = [0u16; Memory::LINK_ROW];
     let mut parents = [0u16; Memory::NODES];
     take_text(from, to, &row[0..size], &mut links, &mut parents)
 }

@@ -1,9 +1,7 @@
 // swapfix FILE CORRECTIONS NEW: makes the file NEW, which is FILE with the corrections in it, each a line `LINK up|down LENGTH`,
 // and lists the entries that changed, old and new. All or nothing: the first correction that is refused is said, and there is
 // no file NEW then.
-ghost use Prim.Native.Nat.{_*_, _≤_, _<_};
-ghost use lib.ListN.{length};
-ghost use Rattle.edition.specs.Limits.{nodeLimit};
+ghost use Prim.Native.Nat.{_≤_};
 ghost use Rattle.text.specs.Words.{mostNumber};
 use archive::Header;
 use archive::ReadAnswer;
@@ -11,12 +9,12 @@ use archive::WriteAnswer;
 use desk::Desk;
 use desk::Got;
 use edition::Change;
-use edition::Edition;
+use edition::Entry;
 use edition::Memory;
-use edition::Refusal;
 use edition::Search;
+use edition::Swap;
 use edition::Verdict;
-use edition::Why;
+use text::Cursor;
 use text::Line;
 use text::Word;
 
@@ -97,35 +95,41 @@ fn take_lines(
     search: Search,
     entries: &mut [u64],
 ) -> bool {
-    if Desk::TEXT < text.len() {
-        return desk::complain(name, b"the text is too long");
+    if !desk::text_fits(name, text) {
+        return false;
     }
-    let mut at = 0;
-    while at < text.len() {
-        let end = text::line_end(text, at);
-        let line = text::line_of(text, at, end);
-        let number = text::line_number(text, at);
-        if !take_line(name, number, line, links, parents, search, entries) {
+    let mut cursor = Cursor::begin();
+    while cursor.at < text.len() {
+        let step = cursor.next_line(text);
+        let line = step.line;
+        if !take_line(name, cursor.number, line, links, parents, search, entries) {
             return false;
         }
-        at = end + 1;
+        cursor = step.next;
     }
     true
 }
 
-// Whether two rows of entries have the same entry of node x.
-fn is_same(old: &[u64], new: &[u64], x: usize) -> bool
-    requires { ⌜ x < nodeLimit ⌝ }
-{
-    let mut i = 0;
-    while i < Memory::ENTRY {
-        let place = x * Memory::ENTRY + i;
-        if rows::wide_at(old, place) != rows::wide_at(new, place) {
-            return false;
-        }
-        i += 1;
+// Whether two swap links and their costs are the same.
+fn is_same_swap(old: Swap, new: Swap) -> bool {
+    if old.link != new.link {
+        return false;
     }
-    true
+    old.cost == new.cost
+}
+
+// Whether two entries are the same.
+fn is_same(old: Entry, new: Entry) -> bool {
+    if old.state != new.state {
+        return false;
+    }
+    if !is_same_swap(old.sum, new.sum) {
+        return false;
+    }
+    if !is_same_swap(old.incr, new.incr) {
+        return false;
+    }
+    is_same_swap(old.max, new.max)
 }
 
 // Prints the old and the new line of node x, where they differ.
@@ -137,10 +141,7 @@ fn put_changed(
     old: &[u64],
     new: &[u64],
 ) -> usize {
-    if Memory::NODES <= x {
-        return at;
-    }
-    if is_same(old, new, x) {
+    if is_same(entries::entry_at(old, x), entries::entry_at(new, x)) {
         return at;
     }
     let before = output::put(out, at, b"old ");
@@ -169,7 +170,7 @@ fn list(parents: &[u16], old: &[u64], new: &[u64]) {
 
 // Makes the file of the network.
 fn store(to: &[u8], links: &[u16], parents: &[u16], search: Search) -> bool {
-    let mut file = [0u8; Edition::FILE_BYTES];
+    let mut file = [0u8; Desk::FILE];
     match archive::write(links, parents, search, &mut file) {
         WriteAnswer::Is(size) => desk::write_new(to, &file, size),
         WriteAnswer::Not(refusal) => desk::refused(to, refusal),
@@ -208,18 +209,15 @@ fn correct_part(
     old: &[u64],
     entries: &mut [u64],
 ) -> bool {
-    let m = header.links;
-    if Memory::LINKS < m {
-        return false;
-    }
-    if links.len() < m * Memory::LINK {
+    let k = network::numbers_of(header.links);
+    if links.len() < k {
         return false;
     }
     correct(
         by,
         to,
         text,
-        &mut links[0..m * Memory::LINK],
+        &mut links[0..k],
         rows::first(parents, header.nodes),
         header.search,
         old,
@@ -229,9 +227,9 @@ fn correct_part(
 
 // Reads the file once more, for its entries as they were, and corrects what is read.
 fn correct_file(from: &[u8], by: &[u8], to: &[u8], file: &[u8], text: &[u8], old: &[u64]) -> bool {
-    let mut links = [0u16; Memory::LINKS * Memory::LINK];
+    let mut links = [0u16; Memory::LINK_ROW];
     let mut parents = [0u16; Memory::NODES];
-    let mut entries = [0u64; Memory::NODES * Memory::ENTRY];
+    let mut entries = [0u64; Memory::ENTRY_ROW];
     match archive::read(file, &mut links, &mut parents, &mut entries) {
         ReadAnswer::Is(header) => {
             correct_part(
@@ -251,9 +249,9 @@ fn correct_file(from: &[u8], by: &[u8], to: &[u8], file: &[u8], text: &[u8], old
 
 // Reads the file's entries as they are, and corrects it.
 fn correct_old(from: &[u8], by: &[u8], to: &[u8], file: &[u8], text: &[u8]) -> bool {
-    let mut links = [0u16; Memory::LINKS * Memory::LINK];
+    let mut links = [0u16; Memory::LINK_ROW];
     let mut parents = [0u16; Memory::NODES];
-    let mut old = [0u64; Memory::NODES * Memory::ENTRY];
+    let mut old = [0u64; Memory::ENTRY_ROW];
     match archive::read(file, &mut links, &mut parents, &mut old) {
         ReadAnswer::Is(_) => correct_file(from, by, to, file, text, &old),
         ReadAnswer::Not(refusal) => desk::refused(from, refusal),
@@ -270,14 +268,8 @@ fn correct_bytes(
     text: &[u8],
     long: usize,
 ) -> bool {
-    if Edition::FILE_BYTES < size {
-        return desk::refused(
-            from,
-            Refusal {
-                why: Why::BadLength,
-                place: 0,
-            },
-        );
+    if !desk::file_fits(from, size) {
+        return false;
     }
     if file.len() < size {
         return false;
@@ -299,7 +291,7 @@ fn with_text(from: &[u8], by: &[u8], to: &[u8], file: &[u8], size: usize) -> boo
 
 // Makes the file `to` of the file `from`, corrected by the text in the file `by`.
 fn run(from: &[u8], by: &[u8], to: &[u8]) -> bool {
-    let mut file = [0u8; Edition::FILE_BYTES + 1];
+    let mut file = [0u8; Desk::FILE + 1];
     match desk::read(from, &mut file) {
         Got::Is(size) => with_text(from, by, to, &file, size),
         Got::Not => false,

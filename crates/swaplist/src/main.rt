@@ -1,9 +1,8 @@
 // Lists the table that a file holds. Reads the stored form from standard input and prints document 01's listing, or
-// `refused N P` where the file is not accepted. A file over the longest that there can be is refusal 20 at place 0, before
-// any other check.
+// `refused N P` where the file is not accepted. A file over the longest that is listed is refusal 20 at place 0, before any
+// other check.
 use archive::Header;
 use archive::ReadAnswer;
-use edition::Edition;
 use edition::Memory;
 use edition::Refusal;
 use edition::Why;
@@ -32,18 +31,18 @@ fn put_accepted(
 
 // Prints the listing of a file, or why it is refused.
 fn list(file: &[u8], out: &mut [u8], at: usize) -> usize {
-    let mut links = [0u16; Memory::LINKS * Memory::LINK];
+    let mut links = [0u16; Memory::LINK_ROW];
     let mut parents = [0u16; Memory::NODES];
-    let mut entries = [0u64; Memory::NODES * Memory::ENTRY];
+    let mut entries = [0u64; Memory::ENTRY_ROW];
     match archive::read(file, &mut links, &mut parents, &mut entries) {
         ReadAnswer::Is(header) => put_accepted(header, &links, &parents, &entries, out, at),
         ReadAnswer::Not(refusal) => output::put_refusal(out, at, refusal),
     }
 }
 
-// Prints the listing of the first bytes of a row, or 20 where they are more than the longest file has.
+// Prints the listing of the first bytes of a row, or 20 where they are more than are listed.
 fn answer(row: &[u8], size: usize, out: &mut [u8]) -> usize {
-    if Edition::FILE_BYTES < size {
+    if listing::LISTED_BYTES < size {
         return output::put_refusal(
             out,
             0,
@@ -59,9 +58,9 @@ fn answer(row: &[u8], size: usize, out: &mut [u8]) -> usize {
     list(&row[0..size], out, 0)
 }
 
-// One byte more than the longest file has is read, by which a longer one is seen.
+// One byte more than is listed is read, by which a longer file is seen.
 fn main() {
-    let mut row = [0u8; Edition::FILE_BYTES + 1];
+    let mut row = [0u8; listing::LISTED_BYTES + 1];
     let mut out = [0u8; OUT];
     let size = io::read_full(libc::STDIN_FILENO, &mut row);
     let waits = answer(&row, size, &mut out);

@@ -8,7 +8,7 @@ use native.Mathlib.Omega.{arith}
 use lib.Dec.{eqb}
 use lib.ListN.{length, getD}
 use borrow.Author.Tests.{eq-eqb, ne-eqb}
-use Rattle.rows.specs.Count.{someTo, sumTo}
+use Rattle.rows.specs.Count.{someTo}
 use Rattle.rows.proofs.Best.{none-some, one-some}
 use Rattle.rows.proofs.Tests.{lastly}
 use Rattle.text.specs.Words.{newline, byteAt, seekFrom, withDigit, numberFrom}
@@ -20,36 +20,30 @@ less-one i stop l = omega arith
 none-left : (i stop : ℕ) → stop ≤ i → stop - i ≡ 0
 none-left i stop l = omega arith
 
-seek-here : (p : ℕ → Bool) (i k : ℕ) → p i ≡ true → seekFrom p i (suc k) ≡ i
+pub seek-here : (p : ℕ → Bool) (i k : ℕ) → p i ≡ true → seekFrom p i (suc k) ≡ i
 unfolding seekFrom
 seek-here p i k e = rw e
 
-seek-past : (p : ℕ → Bool) (i k : ℕ) → p i ≡ false → seekFrom p i (suc k) ≡ seekFrom p (suc i) k
+pub seek-past : (p : ℕ → Bool) (i k : ℕ) → p i ≡ false → seekFrom p i (suc k) ≡ seekFrom p (suc i) k
 unfolding seekFrom
 seek-past p i k e = rw e
 
-seek-end : (p : ℕ → Bool) (i : ℕ) → seekFrom p i 0 ≡ i
+pub seek-end : (p : ℕ → Bool) (i : ℕ) → seekFrom p i 0 ≡ i
 unfolding seekFrom
 seek-end p i = refl
 
 -- the first place that passes is not before i
 pub record Scanning (p : ℕ → Bool) (from stop i : ℕ) : Type 0 where
-  pub low : from ≤ i
-  pub high : i ≤ from + stop
   pub is : seekFrom p from (stop - from) ≡ seekFrom p i (stop - i)
 
 module _ (p : ℕ → Bool) (from stop : ℕ) where
   pub scan-start : Scanning p from stop from
-  scan-start = record { low = omega arith; high = omega arith; is = refl }
+  scan-start = record { is = refl }
 
   module _ (i : ℕ) (s : Scanning p from stop i) where
     pub scan-more : i < stop → p i ≡ false → Scanning p from stop (i + 1)
     scan-more l e =
-        record {
-          low = omega (arith, s .low);
-          high = omega (arith, s .high);
-          is = rw add-one (s .is ∙ (ap (seekFrom p i) (less-one i stop l) ∙ seek-past p i (stop - suc i) e));
-        }
+        record { is = rw add-one (s .is ∙ (ap (seekFrom p i) (less-one i stop l) ∙ seek-past p i (stop - suc i) e)) }
 
     pub scan-found : i < stop → p i ≡ true → i ≡ seekFrom p from (stop - from)
     scan-found l e = sym (s .is ∙ (ap (seekFrom p i) (less-one i stop l) ∙ seek-here p i (stop - suc i) e))
@@ -106,23 +100,3 @@ module _ (text : List ℕ) (from : ℕ) (name : List ℕ) where
 
     pub match-all : length name ≤ i → true ≡ not (someTo (differ text from name) (length name))
     match-all l = sym (ap not (none-some (differ text from name) (length name) (λ j m. s .same j (omega arith))))
-
--- so many lines have ended before i
-pub record Lined (f : ℕ → ℕ) (to i lines : ℕ) : Type 0 where
-  pub low : lines ≤ i
-  pub high : i ≤ to
-  pub is : lines ≡ sumTo f i
-
-module _ (f : ℕ → ℕ) (to : ℕ) where
-  pub line-start : Lined f to 0 0
-  unfolding sumTo
-  line-start = record { low = omega arith; high = omega arith; is = refl }
-
-  module _ (i lines : ℕ) (s : Lined f to i lines) where
-    pub line-more : i < to → (more : ℕ) → more ≤ i + 1 → more ≡ lines + f i → Lined f to (i + 1) more
-    unfolding sumTo
-    line-more l more h e =
-        record { low = h; high = omega arith; is = rw add-one (e ∙ ap (λ n. n + f i) (s .is)) }
-
-    pub line-done : to ≤ i → lines ≡ sumTo f to
-    line-done l = s .is ∙ ap (sumTo f) (omega (arith, s .high))

@@ -7,6 +7,8 @@ use lib.ListN.{length, getD}
 use Rattle.edition.specs.Limits.{served, withdrawn}
 use Rattle.rows.specs.Count.{someTo, sumTo, onlyIf}
 use Rattle.text.specs.declared.Line.{Line}
+use Rattle.text.specs.declared.Cursor.{Cursor}
+use Rattle.text.specs.declared.Step.{Step}
 
 -- The largest number that a word can be, and the marks of the other words: the names, none of them, no word.
 abbrev pub mostNumber : ℕ
@@ -136,6 +138,19 @@ lineOf text at end =
 -- The number of the line of a place: one more than how many lines end before it.
 unfoldable pub lineNumber : List ℕ → ℕ → ℕ
 lineNumber text at = sumTo (λ i. onlyIf (eqb (byteAt text i) newline) 1) (min at (length text)) + 1
+
+-- The first line.
+abbrev pub firstLine : Cursor
+firstLine = record { at = 0; number = 1 }
+
+-- What a line says, and the line behind it. No line of a text has a number over one more than the text's length.
+unfoldable pub nextLine : List ℕ → Cursor → Step
+nextLine text c =
+    let end = lineEnd text (c .at) in
+    record {
+      line = lineOf text (c .at) end;
+      next = record { at = min end (length text) + 1; number = min (c .number) (length text) + 1 };
+    }
 
 -- The service mark that a word names.
 unfoldable pub markOf : ℕ → ℕ

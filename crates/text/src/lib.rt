@@ -2,11 +2,11 @@
 // the end of the line. A word is answered as one number: itself where it is a number up to `Word::MOST`, else one of the marks.
 ghost use mathlib.Core.Path.{_≡_};
 ghost use mathlib.Core.Bool.{not};
-ghost use Prim.Native.Nat.{_+_, _-_, _≤_, _<_, min};
+ghost use Prim.Native.Nat.{_+_, _-_, _≤_, min};
 ghost use lib.Dec.{eqb};
 ghost use lib.ListN.{length, getD};
-ghost use Rattle.rows.specs.Count.{someTo, sumTo, onlyIf};
-ghost use Rattle.text.specs.Words.{newline, byteAt, isBlank, isPast, lineEnd, wordFrom, wordTo, withDigit, numberFrom, isNamed, kindOf, nameOf, valueOf, nextValue, nextEnd, lineOf, lineNumber, markOf};
+ghost use Rattle.rows.specs.Count.{someTo};
+ghost use Rattle.text.specs.Words.{newline, byteAt, isBlank, isPast, lineEnd, wordFrom, wordTo, withDigit, numberFrom, isNamed, kindOf, nameOf, valueOf, nextValue, nextEnd, lineOf, firstLine, nextLine, markOf};
 use edition::Edition;
 
 // A word of a line: its value, and where it ends.
@@ -52,6 +52,18 @@ pub struct Line {
     pub rest: u32,
 }
 
+// A line of a text: the place where it begins, and its number, from 1 on.
+pub struct Cursor {
+    pub at: usize,
+    pub number: usize,
+}
+
+// The words of a line, and the line behind it.
+pub struct Step {
+    pub line: Line,
+    pub next: Cursor,
+}
+
 // The byte at a place; the end of a line past the text.
 fn byte_at(text: &[u8], i: usize) -> u8
     ensures { λ r. ⌜ r ≡ byteAt (now (text .entry)) i ⌝ }
@@ -60,8 +72,8 @@ fn byte_at(text: &[u8], i: usize) -> u8
 }
 
 // Where the line that holds a place ends: at the next end of line, or at the text's end.
-pub fn line_end(text: &[u8], at: usize) -> usize
-    ensures { λ r. ⌜ (r ≡ lineEnd (now (text .entry)) at) × (at ≤ r) × (r ≤ at + length (now (text .entry))) ⌝ }
+fn line_end(text: &[u8], at: usize) -> usize
+    ensures { λ r. ⌜ r ≡ lineEnd (now (text .entry)) at ⌝ }
 {
     let mut i = at;
     while i < text.len() {
@@ -250,7 +262,7 @@ fn next(text: &[u8], at: usize, end: usize) -> Word
 }
 
 // The words of the line from a place to its end.
-pub fn line_of(text: &[u8], at: usize, end: usize) -> Line
+fn line_of(text: &[u8], at: usize, end: usize) -> Line
     ensures { λ r. ⌜ r ≡ lineOf (now (text .entry)) at end ⌝ }
 {
     let kind = next(text, at, end);
@@ -271,39 +283,38 @@ pub fn line_of(text: &[u8], at: usize, end: usize) -> Line
     }
 }
 
-// How many lines end before place i + 1, of which so many end before place i.
-fn counted(text: &[u8], lines: usize, i: usize) -> usize
-    requires { ⌜ (lines ≤ i) × (i < length (now text)) ⌝ }
-    ensures { λ r. ⌜ (r ≤ i + 1) × (r ≡ lines + onlyIf (eqb (byteAt (now (text .entry)) i) newline) 1) ⌝ }
+// The smaller of a number and the text's length.
+fn within(text: &[u8], n: usize) -> usize
+    ensures { λ r. ⌜ (r ≤ length (now (text .entry))) × (r ≡ min n (length (now (text .entry)))) ⌝ }
 {
-    if byte_at(text, i) == b'\n' {
-        return lines + 1;
-    }
-    lines
-}
-
-// The smaller of a place and the text's length.
-fn within(text: &[u8], at: usize) -> usize
-    ensures { λ r. ⌜ (r ≤ length (now (text .entry))) × (r ≡ min at (length (now (text .entry)))) ⌝ }
-{
-    if at < text.len() {
-        return at;
+    if n < text.len() {
+        return n;
     }
     text.len()
 }
 
-// The number of the line that holds a place, from 1 on.
-pub fn line_number(text: &[u8], at: usize) -> usize
-    ensures { λ r. ⌜ r ≡ lineNumber (now (text .entry)) at ⌝ }
-{
-    let to = within(text, at);
-    let mut line = 0;
-    let mut i = 0;
-    while i < to {
-        line = counted(text, line, i);
-        i += 1;
+impl Cursor {
+    // The first line.
+    pub fn begin() -> Cursor
+        ensures { λ r. ⌜ r ≡ firstLine ⌝ }
+    {
+        Cursor { at: 0, number: 1 }
     }
-    line + 1
+
+    // What the line says, and the line behind it, which begins past the text where this is the last. The numbers go no further
+    // than a text of that length has lines.
+    pub fn next_line(self, text: &[u8]) -> Step
+        ensures { λ r. ⌜ r ≡ nextLine (now (text .entry)) self ⌝ }
+    {
+        let end = line_end(text, self.at);
+        Step {
+            line: line_of(text, self.at, end),
+            next: Cursor {
+                at: within(text, end) + 1,
+                number: within(text, self.number) + 1,
+            },
+        }
+    }
 }
 
 // The service mark that a word of a line names: `up` is in service, any other word withdrawn.

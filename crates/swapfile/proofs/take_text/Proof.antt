@@ -1,40 +1,36 @@
--- `swapfile::take_text` meets its contract. Assumes nothing.
+-- `swapfile::take_text` meets its contract: each turn of the loop takes a line, and the next one begins behind it. Assumes
+-- nothing.
 use mathlib.Core.Path.{_≡_}
 use lib.ListN.{length}
 use Prim.Native.Nat.{_-_}
+use Rattle.text.proofs.Numbering.{goes-on}
 use borrow.Author.Needs.{needs}
 use Rattle.swapfile.proofs.take_text.Statement.{statement}
 use Rattle.swapfile.proofs.take_text.Tie as tie
 
 abbrev Inv-loop : tie.InvT-loop
-Inv-loop from to text links₀ parents₀ told₀ at₀ links parents told at = (length links ≡ length links₀) × (length parents ≡ length parents₀)
+Inv-loop from to text links₀ parents₀ told₀ cursor₀ links parents told cursor = (length links ≡ length links₀) × (length parents ≡ length parents₀)
 
 abbrev μ-loop : tie.MeasureT-loop
-μ-loop from to text links₀ parents₀ told₀ at₀ links parents told at = length text - at
+μ-loop from to text links₀ parents₀ told₀ cursor₀ links parents told cursor = length text - cursor .at
 
-slice-aggregate-complain : tie.Need-slice-aggregate-complain Inv-loop μ-loop
-slice-aggregate-complain c = search needs
-
-complain-requires : tie.Need-complain-requires Inv-loop μ-loop
-complain-requires c κs = search needs
+text-fits-requires : tie.Need-text-fits-requires Inv-loop μ-loop
+text-fits-requires c κs = search needs
 
 returns : tie.Need-returns Inv-loop μ-loop
 returns c = search needs
 
+begin-requires : tie.Need-begin-requires Inv-loop μ-loop
+begin-requires c κs = search needs
+
 loop-holds : tie.Need-loop-holds Inv-loop μ-loop
 loop-holds c = search needs
 
-line-end-requires : tie.Need-line-end-requires Inv-loop μ-loop
-line-end-requires c κs = search needs
-
-line-of-requires : tie.Need-line-of-requires Inv-loop μ-loop
-line-of-requires c κs = search needs
+next-line-requires : tie.Need-next-line-requires Inv-loop μ-loop
+next-line-requires c κs = search needs
 
 take-line-requires : tie.Need-take-line-requires Inv-loop μ-loop
 take-line-requires c κs = search needs
-
-line-number-requires : tie.Need-line-number-requires Inv-loop μ-loop
-line-number-requires c κs = search needs
 
 say-lack-requires : tie.Need-say-lack-requires Inv-loop μ-loop
 say-lack-requires c κs = search needs
@@ -48,11 +44,10 @@ same-length-2 c = search needs
 returns-2 : tie.Need-returns-2 Inv-loop μ-loop
 returns-2 c = search needs
 
-add-at : tie.Need-add-at Inv-loop μ-loop
-add-at c = search needs
-
 loop-less : tie.Need-loop-less Inv-loop μ-loop
-loop-less c = search needs
+loop-less c =
+    let read = c .before .before .before .before .before .before .before .before .before .before in
+    goes-on _ _ _ (read .next-line .ensures) (read .before .if2 .taken)
 
 loop-again : tie.Need-loop-again Inv-loop μ-loop
 loop-again c = search needs
@@ -75,19 +70,16 @@ take-text-spec =
     (tie.spec
     Inv-loop
     μ-loop
-    slice-aggregate-complain
-    complain-requires
+    text-fits-requires
     returns
+    begin-requires
     loop-holds
-    line-end-requires
-    line-of-requires
+    next-line-requires
     take-line-requires
-    line-number-requires
     say-lack-requires
     same-length
     same-length-2
     returns-2
-    add-at
     loop-less
     loop-again
     finish-requires

@@ -24,7 +24,10 @@ byte-at-requires c κs = search needs
 
 returns : tie.Need-returns Inv-loop μ-loop
 unfolding lineEnd
-returns c = (scan-found _ _ _ _ (c .before .before .before .loop .inv) (c .before .before .loop-test .taken) (eq-eqb (byteAt (c .before .before .before .before .before .args .text .now) (c .before .before .before .loop .i)) newline (sym (c .before .byte-at .ensures) ∙ c .if1 .taken)), c .before .before .before .loop .inv .low, c .before .before .before .loop .inv .high)
+returns c =
+    let loop = c .before .before .before .loop in
+    let args = c .before .before .before .before .before .args in
+    scan-found _ _ _ _ (loop .inv) (c .before .before .loop-test .taken) (eq-eqb (byteAt (args .text .now) (loop .i)) newline (sym (c .before .byte-at .ensures) ∙ c .if1 .taken))
 
 add-i : tie.Need-add-i Inv-loop μ-loop
 add-i c = search needs
@@ -33,11 +36,14 @@ loop-less : tie.Need-loop-less Inv-loop μ-loop
 loop-less c = search needs
 
 loop-again : tie.Need-loop-again Inv-loop μ-loop
-loop-again c = scan-more _ _ _ _ (c .before .before .before .loop .inv) (c .before .before .loop-test .taken) (ne-eqb (byteAt (c .before .before .before .before .before .args .text .now) (c .before .before .before .loop .i)) newline (λ h. c .if1 .left (c .before .byte-at .ensures ∙ h)))
+loop-again c =
+    let loop = c .before .before .before .loop in
+    let args = c .before .before .before .before .before .args in
+    scan-more _ _ _ _ (loop .inv) (c .before .before .loop-test .taken) (ne-eqb (byteAt (args .text .now) (loop .i)) newline (λ h. c .if1 .left (c .before .byte-at .ensures ∙ h)))
 
 returns-2 : tie.Need-returns-2 Inv-loop μ-loop
 unfolding lineEnd
-returns-2 c = (scan-none _ _ _ _ (c .before .loop .inv) (c .loop-test .left), c .before .loop .inv .low, c .before .loop .inv .high)
+returns-2 c = scan-none _ _ _ _ (c .before .loop .inv) (c .loop-test .left)
 
 pub line-end-spec : {M : Type 1} → statement M
 line-end-spec =
