@@ -1,5 +1,5 @@
 -- What is read from a file that the writer made of a sound network: its header, its depth, its rows, the network. Assumes nothing.
-use mathlib.Core.Path.{_≡_, refl, sym, subst, ap, ap₂, _∙_}
+use mathlib.Core.Path.{_≡_, refl, sym, ap, ap₂, _∙_}
 use mathlib.Core.Bool.{Bool, true, false}
 use mathlib.Core.List.{List, [], _∷_, _++_}
 use Prim.Native.Nat.{ℕ, _+_, _*_, _<_, _≤_}
@@ -19,7 +19,7 @@ use Rattle.rows.proofs.Records.{rows-length}
 use Rattle.network.specs.Network.{Net, linksIn, linkIn, netOf}
 use Rattle.network.proofs.Keeping.{rows-count, rows-link}
 use Rattle.network.specs.Records.{badParent}
-use Rattle.network.proofs.Whole.{same-network, first-held, second-held, length-held, mark-held}
+use Rattle.network.proofs.Whole.{same-links, first-held, second-held, length-held, mark-held}
 use Rattle.sound.specs.Sound.{netVerdict}
 use Rattle.sound.proofs.Sounds.{sound}
 use Rattle.sound.proofs.Holding.{nodes-few, links-few, root-in, depth-few, parent-in}
@@ -175,6 +175,4 @@ module _ (links parents : List ℕ) (search : Search) (ok : netVerdict (netOf li
   unfolding netRead
   network-back =
       ap₂ (λ (p : List ℕ) (s : Search). netOf (linksHeld (fileOf g)) p s) parents-back search-back
-      ∙ same-network (linksHeld (fileOf g)) links
-      (record { count = row-count; records = λ e l. links-back e (omega (arith, l, row-count)) })
-      parents search
+      ∙ same-links (linksHeld (fileOf g)) links row-count (λ e l. links-back e (omega (arith, l, row-count))) parents search

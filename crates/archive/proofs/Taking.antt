@@ -1,4 +1,4 @@
--- What the writer makes of a sound network is taken, wherever the lent rows have room. Assumes nothing.
+-- What the writer makes of a sound network within edition 1's limits is taken, wherever the lent rows have room. Assumes nothing.
 use mathlib.Core.Path.{_≡_, ap, ap₂, _∙_}
 use mathlib.Core.Bool.{false, not}
 use mathlib.Core.List.{List, [], _∷_}

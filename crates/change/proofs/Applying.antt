@@ -5,7 +5,7 @@ use mathlib.Core.List.{List, _++_}
 use Prim.Native.Nat.{ℕ, _<_, _≤_}
 use native.Mathlib.Omega.{arith}
 use lib.Dec.{leb}
-use lib.ListN.{length, replicate, length-replicate}
+use lib.ListN.{length, getD, replicate, length-replicate}
 use borrow.Author.Tests.{leb-false, le-ltb}
 use Rattle.edition.specs.declared.Change.{Change}
 use Rattle.edition.specs.declared.Refusal.{Refusal}
@@ -13,7 +13,7 @@ use Rattle.edition.specs.declared.Search.{Search}
 use Rattle.edition.specs.declared.Verdict.{Verdict}
 use Rattle.edition.specs.declared.Verdict.the-variants.{Taken, Refused}
 use Rattle.edition.specs.declared.Why.the-variants.{NoRoom, LinkMissing, BadMark, TreeLink, BreaksShort}
-use Rattle.edition.specs.Limits.{nodeLimit}
+use Rattle.edition.specs.Limits.{nodeLimit, noLink}
 use Rattle.entries.specs.Row.{entriesIn, pastEntries}
 use Rattle.rows.specs.Count.{rowsTo}
 use Rattle.rows.specs.First.{refuseIf}
@@ -21,7 +21,7 @@ use Rattle.rows.specs.Lists.{differ}
 use Rattle.rows.proofs.Records.{rows-cong}
 use Rattle.rows.proofs.Refusing.{head-taken, head-refuses, head-passes, both-taken, none-left, if-taken, if-passes, only-one}
 use Rattle.network.specs.declared.Link.{Link}
-use Rattle.network.specs.Network.{linksIn, linkIn, netOf, names}
+use Rattle.network.specs.Network.{linksIn, linkIn, netOf, isParent}
 use Rattle.network.specs.Records.{badMark}
 use Rattle.tree.specs.Tree.{treeOf, under}
 use Rattle.sound.specs.Sound.{netVerdict}
@@ -30,7 +30,7 @@ use Rattle.sound.proofs.Holding.{nodes-few, root-in, first-in, second-in, link-
 use Rattle.table.specs.Table.{marked, freshAt, freshRow, tableVerdict}
 use Rattle.table.specs.Work.{Moved}
 use Rattle.table.proofs.Whole.{table-room}
-use Rattle.change.specs.Change.{isParent, breaks, changeVerdict, setLink, mended, changed}
+use Rattle.change.specs.Change.{breaks, changeVerdict, setLink, mended, changed}
 use Rattle.change.specs.Work.{flip}
 use Rattle.change.proofs.Staying.{Allowed, allowed, still-sound}
 use Rattle.change.proofs.Mending.{onWay, madeAt, mended-rows}
@@ -63,9 +63,9 @@ module _ (links parents : List ℕ) (search : Search) (entries : List ℕ) (c : 
       pub link-there : c .link < linksIn links
       link-there = leb-false (linksIn links) (c .link) (if-taken _ LinkMissing 0 (ap (λ k. refuseIf (leb k (c .link)) LinkMissing 0) (sym count) ∙ (sym wis ∙ there)))
 
-      module _ (serves : x ≡ Taken) (p : Bool) (named : p ≡ names parents (c .link)) (y : Verdict) (yis : y ≡ refuseIf p TreeLink (c .link)) where
-        fourth : y ≡ refuseIf (isParent (netOf links parents search) (c .link)) TreeLink (c .link)
-        unfolding isParent names netOf
+      module _ (serves : x ≡ Taken) (p : Bool) (named : p ≡ isParent (λ u. getD parents u noLink) (length parents) (c .link)) (y : Verdict) (yis : y ≡ refuseIf p TreeLink (c .link)) where
+        fourth : y ≡ refuseIf (isParent (netOf links parents search .parent) (netOf links parents search .nodes) (c .link)) TreeLink (c .link)
+        unfolding netOf
         fourth = yis ∙ ap (λ k. refuseIf k TreeLink (c .link)) named
 
         pub fourth-refuses : (r : Refusal) → y ≡ Refused r → y ≡ changeVerdict (netOf links parents search) entries c

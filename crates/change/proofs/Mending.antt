@@ -10,15 +10,14 @@ use lib.ListN.{length}
 use borrow.Author.Tests.{eqb-true}
 use Rattle.edition.specs.declared.Change.{Change}
 use Rattle.edition.specs.declared.Search.{Search}
-use Rattle.edition.specs.Entries.{entryRow}
 use Rattle.rows.specs.Count.{rowsTo}
 use Rattle.rows.specs.Lists.{differ}
 use Rattle.rows.proofs.Tests.{and-none}
 use Rattle.rows.proofs.Records.{rows-cong}
-use Rattle.entries.specs.Row.{entriesIn, standing, pastEntries}
+use Rattle.entries.specs.Row.{entryRow, entriesIn, standing, pastEntries}
 use Rattle.entries.proofs.Keeping.{Sized, entry-sized, standing-sized, rows-past, rows-standing}
 use Rattle.network.specs.declared.Link.{Link}
-use Rattle.network.specs.Network.{Net, linksIn, linkIn, netOf, inService}
+use Rattle.network.specs.Network.{linksIn, linkIn, netOf, inService}
 use Rattle.tree.specs.Tree.{Tree, treeOf, under, onPath}
 use Rattle.sound.proofs.Holding.{link-path}
 use Rattle.swap.specs.Swap.{crosses}

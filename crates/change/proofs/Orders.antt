@@ -9,11 +9,10 @@ use borrow.Author.Tests.{ne-eqb}
 use Rattle.edition.specs.declared.Change.{Change}
 use Rattle.edition.specs.declared.Search.{Search}
 use Rattle.edition.specs.declared.Verdict.the-variants.{Taken}
-use Rattle.edition.specs.Entries.{entryRow}
 use Rattle.rows.specs.Count.{rowsTo}
 use Rattle.rows.proofs.Tests.{or-swap}
 use Rattle.rows.proofs.Records.{rows-cong}
-use Rattle.entries.specs.Row.{entriesIn, standing, pastEntries}
+use Rattle.entries.specs.Row.{entryRow, entriesIn, standing, pastEntries}
 use Rattle.entries.proofs.Keeping.{rows-past}
 use Rattle.network.specs.declared.Link.{Link}
 use Rattle.network.specs.Network.{linkIn, netOf}

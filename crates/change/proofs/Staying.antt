@@ -15,7 +15,7 @@ use Rattle.edition.specs.Limits.{noLink}
 use Rattle.rows.proofs.Best.{some-none}
 use Rattle.rows.proofs.Refusing.{head-taken, rest-taken, if-taken}
 use Rattle.network.specs.declared.Link.{Link}
-use Rattle.network.specs.Network.{Net, linksIn, linkIn, netOf, inService}
+use Rattle.network.specs.Network.{Net, linksIn, linkIn, netOf, isParent, inService}
 use Rattle.network.specs.Records.{badEnds, badMark, badParent}
 use Rattle.tree.specs.Tree.{Tree, treeOf}
 use Rattle.tree.proofs.Ways.{Home}
@@ -23,7 +23,7 @@ use Rattle.sound.specs.Sound.{short, notShort}
 use Rattle.sound.proofs.Sounds.{Sound, sound}
 use Rattle.sound.proofs.Holding.{links-few}
 use Rattle.table.proofs.Whole.{table-sound}
-use Rattle.change.specs.Change.{isParent, breaks, changeVerdict, changedLink, setLink}
+use Rattle.change.specs.Change.{breaks, changeVerdict, changedLink, setLink}
 use Rattle.change.proofs.Setting.{count-same, link-other, link-set, tree-same}
 
 -- what 1 to 13 leave
@@ -31,7 +31,7 @@ pub record Allowed (g : Net) (c : Change) : Type 0 where
   pub before : Sound g
   pub there : c .link < g .links
   mark-ok : badMark (c .mark) ≡ false
-  spare-ok : isParent g (c .link) ≡ false
+  spare-ok : isParent (g .parent) (g .nodes) (c .link) ≡ false
   pub fits : breaks g c ≡ false
 
 pub allowed : (g : Net) (entries : List ℕ) (c : Change) → changeVerdict g entries c ≡ Taken → Allowed g c

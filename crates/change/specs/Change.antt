@@ -10,21 +10,16 @@ use Rattle.edition.specs.declared.Verdict.{Verdict}
 use Rattle.edition.specs.declared.Why.the-variants.{LinkMissing, BadMark, TreeLink, BreaksShort}
 use Rattle.edition.specs.Limits.{served}
 use Rattle.edition.specs.Refusals.{made}
-use Rattle.edition.specs.Entries.{entryRow}
-use Rattle.rows.specs.Count.{someTo, rowsTo}
+use Rattle.rows.specs.Count.{rowsTo}
 use Rattle.rows.specs.First.{refuseIf, firstly}
 use Rattle.network.specs.declared.Link.{Link}
-use Rattle.network.specs.Network.{Net, netOf, linkIn, putLink}
+use Rattle.network.specs.Network.{Net, netOf, linkIn, putLink, isParent}
 use Rattle.network.specs.Records.{badMark}
 use Rattle.tree.specs.Tree.{treeOf, onPath}
 use Rattle.sound.specs.Sound.{short}
 use Rattle.swap.specs.Entry.{entry}
-use Rattle.entries.specs.Row.{standing, pastEntries}
+use Rattle.entries.specs.Row.{entryRow, standing, pastEntries}
 use Rattle.table.specs.Table.{tableVerdict}
-
--- Is the link some node's parent link?
-unfoldable pub isParent : Net → ℕ → Bool
-isParent g e = someTo (λ u. eqb (g .parent u) e) (g .nodes)
 
 -- Setting a link in service needs the two inequalities for the new length; withdrawing needs none.
 unfoldable pub breaks : Net → Change → Bool
@@ -39,7 +34,7 @@ changeVerdict g entries c =
     (tableVerdict g entries ∷
     refuseIf (leb (g .links) (c .link)) LinkMissing 0 ∷
     refuseIf (badMark (c .mark)) BadMark (c .link) ∷
-    refuseIf (isParent g (c .link)) TreeLink (c .link) ∷
+    refuseIf (isParent (g .parent) (g .nodes) (c .link)) TreeLink (c .link) ∷
     refuseIf (breaks g c) BreaksShort (c .link) ∷ [])
 
 -- A link with the length and the service mark that a change names, and all else as it was.

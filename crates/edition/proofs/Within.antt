@@ -1,5 +1,5 @@
 -- Edition 1's limits are within memory's: what its files can hold, memory can. Assumes nothing.
-use Prim.Native.Nat.{ℕ, _≤_}
+use Prim.Native.Nat.{_≤_}
 use native.Mathlib.Omega.{arith}
 use Rattle.edition.specs.declared.Limits.{Limits}
 use Rattle.edition.specs.Limits.{memoryLimits}

@@ -1,5 +1,4 @@
--- An entry and its record in memory. Assumes nothing.
-use mathlib.Core.List.{List, [], _∷_}
+-- An entry: its states, one without links and costs, its swap link under a measure. Assumes nothing.
 use Prim.Native.Nat.{ℕ}
 use Rattle.edition.specs.declared.Swap.{Swap}
 use Rattle.edition.specs.declared.Entry.{Entry}
@@ -33,8 +32,3 @@ abbrev pub swapBy : Entry → Measure → Swap
 swapBy e Sum = e .sum
 swapBy e Incr = e .incr
 swapBy e Max = e .max
-
--- The numbers of an entry's record: state, links for sum, incr and max, costs for sum, incr and max.
-unfoldable pub entryRow : Entry → List ℕ
-entryRow e =
-    e .state ∷ e .sum .link ∷ e .incr .link ∷ e .max .link ∷ e .sum .cost ∷ e .incr .cost ∷ e .max .cost ∷ []

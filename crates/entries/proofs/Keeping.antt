@@ -1,15 +1,14 @@
 -- An entry that is put is read back, and every other stays; a row is its entries and what lies past them. Assumes nothing.
-use mathlib.Core.Path.{_≡_, refl, sym, ap, _∙_}
+use mathlib.Core.Path.{_≡_, refl, ap, _∙_}
 use mathlib.Core.List.{List, _++_}
 use Prim.Native.Nat.{ℕ, _<_, _≤_}
 use native.Mathlib.Omega.{arith}
 use lib.ListN.{length}
 use Rattle.edition.specs.declared.Entry.{Entry}
 use Rattle.edition.specs.Limits.{entryWidth}
-use Rattle.edition.specs.Entries.{entryRow}
 use Rattle.rows.specs.Count.{rowsTo}
 use Rattle.rows.proofs.Put as put
-use Rattle.entries.specs.Row.{entriesIn, standing, entryFrom, entryAt, putEntry, pastEntries}
+use Rattle.entries.specs.Row.{entryRow, entriesIn, standing, entryFrom, entryAt, putEntry, pastEntries}
 
 -- numbers that are a record of entries
 abbrev pub Sized : List ℕ → Type 0

@@ -1,5 +1,5 @@
 -- The numbers of an entry, where they stand in a row. Assumes nothing.
-use mathlib.Core.Path.{_≡_, refl, sym, ap, _∙_}
+use mathlib.Core.Path.{_≡_, sym, ap, _∙_}
 use mathlib.Core.List.{List, []}
 use Prim.Native.Nat.{ℕ, _+_, _*_, _<_, _≤_}
 use native.Mathlib.Omega.{arith}
@@ -7,11 +7,10 @@ use lib.ListN.{getD, drop, length, drop-of-length-le}
 use borrow.Author.Tests.{lt-ltb, le-ltb}
 use Rattle.edition.specs.declared.Entry.{Entry}
 use Rattle.edition.specs.Limits.{entryWidth}
-use Rattle.edition.specs.Entries.{entryRow}
 use Rattle.rows.specs.Records.{withRecord, pastRecords}
 use Rattle.rows.proofs.Put as put
 use lib.Seq.{sets}
-use Rattle.entries.specs.Row.{entriesIn, standing, entryFrom, entryAt, putEntry, pastEntries}
+use Rattle.entries.specs.Row.{entryRow, entriesIn, standing, entryFrom, entryAt, putEntry, pastEntries}
 
 module _ (row : List ℕ) (x : ℕ) where
   pub entry-none : entriesIn row ≤ x → entryFrom [] ≡ entryAt row x

@@ -1,10 +1,9 @@
 -- A row of entries: how many it holds, the entry of a node, an entry that is put, what lies past the entries. Assumes nothing.
-use mathlib.Core.List.{List}
+use mathlib.Core.List.{List, [], _∷_}
 use Prim.Native.Nat.{ℕ}
 use lib.ListN.{getD}
 use Rattle.edition.specs.declared.Entry.{Entry}
 use Rattle.edition.specs.Limits.{entryWidth}
-use Rattle.edition.specs.Entries.{entryRow}
 use Rattle.rows.specs.Records.{recordsIn, recordIn, withRecord, pastRecords}
 
 -- How many whole entries a row holds.
@@ -15,7 +14,12 @@ entriesIn row = recordsIn entryWidth row
 unfoldable pub standing : List ℕ → ℕ → List ℕ
 standing row x = recordIn entryWidth row x
 
--- The entry that the numbers of a record are, in the order of `entryRow`.
+-- The numbers of an entry's record: state, links for sum, incr and max, costs for sum, incr and max.
+unfoldable pub entryRow : Entry → List ℕ
+entryRow e =
+    e .state ∷ e .sum .link ∷ e .incr .link ∷ e .max .link ∷ e .sum .cost ∷ e .incr .cost ∷ e .max .cost ∷ []
+
+-- The entry that the numbers of a record are.
 unfoldable pub entryFrom : List ℕ → Entry
 entryFrom r =
     record {

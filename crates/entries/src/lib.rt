@@ -73,7 +73,7 @@ pub fn put_entry(row: &mut [u64], x: usize, e: Entry)
     row[at + 6] = e.max.cost;
 }
 
-// What lies past the first n entries: that part of the lent row, no copy.
+// What lies past the first n entries: that part of the lent row.
 pub fn past_entries(row: &[u64], n: usize) -> &[u64]
     ensures { λ r. ⌜ now r ≡ pastEntries n (now (row .entry)) ⌝ }
 {

@@ -3,13 +3,13 @@ use mathlib.Core.Bool.{Bool, true, _&&_}
 use mathlib.Core.List.{List, [], _∷_, _++_}
 use Prim.Native.Nat.{ℕ}
 use lib.ListN.{replicate}
+use Rattle.entries.specs.Row.{entryRow}
 use Rattle.edition.specs.declared.Verdict.{Verdict}
 use Rattle.edition.specs.declared.Verdict.the-variants.{Taken, Refused}
 use Rattle.edition.specs.declared.Search.{Search}
 use Rattle.edition.specs.declared.Change.{Change}
 use Rattle.edition.specs.Limits.{noLink, noNode, wholeSearch, mapWords}
 use Rattle.edition.specs.Refusals.{numberOf}
-use Rattle.edition.specs.Entries.{entryRow}
 use Rattle.rows.specs.Count.{rowsTo}
 use Rattle.rows.specs.Lists.{same}
 use Rattle.network.specs.Network.{Net, netOf}

@@ -111,7 +111,7 @@ fn put_unprotected(out: &mut [u8], at: usize, told: Unprotected) -> usize
 {
     let counted = put_named(out, at, b"unprotected", told.count as u64);
     let lowest = output::put(out, counted, b" lowest");
-    if told.lowest == Edition::NO_NODE {
+    if told.lowest == Edition::no_node() {
         return output::put(out, lowest, b" -\n");
     }
     let placed = output::put_field(out, lowest, told.lowest as u64);

@@ -3,7 +3,6 @@ use mathlib.Core.Path.{_≡_, refl, sym, ap, _∙_}
 use mathlib.Core.Bool.{Bool, true, false, _&&_, _||_}
 use mathlib.Core.List.{List, [], _∷_, _++_}
 use Prim.Native.Nat.{ℕ, _+_, _*_, _<_, _≤_}
-use native.Mathlib.Omega.{arith}
 use lib.Dec.{eqb, ltb}
 use lib.ListN.{length, drop}
 use borrow.Author.Tests.{ltb-true, le-ltb, lt-ltb}
@@ -25,7 +24,7 @@ use Rattle.network.specs.Network.{Net}
 use Rattle.sound.specs.Sound.{netVerdict}
 use Rattle.sound.proofs.Sounds.{sound}
 use Rattle.sound.proofs.Holding.{nodes-few}
-use Rattle.swap.specs.Entry.{entry, state}
+use Rattle.swap.specs.Entry.{state}
 use Rattle.swap.proofs.Stating.{entry-state}
 use Rattle.table.specs.Table.{table, tableVerdict, tableRow}
 use Rattle.table.proofs.Single.{bareRow, bare-verdict}

@@ -70,6 +70,16 @@ module _ (row : List ℕ) (e : ℕ) where
     unfolding linkIn putLink
     put-kept k n = ap linkFrom (put.put-other linkWidth row e (linkRow l) (link-sized l) k n)
 
+-- what lies past the first m records, that one among them, stays
+pub put-past : (row : List ℕ) (e : ℕ) (l : Link) (m : ℕ) → e < m → pastLinks m (putLink row e l) ≡ pastLinks m row
+unfolding pastLinks putLink
+put-past row e l m h = put.put-past linkWidth row e (linkRow l) (link-sized l) m h
+
+-- a link among the first m is the same in a row that is cut behind them
+pub link-front : (row : List ℕ) (m e : ℕ) → e < m → m ≤ linksIn row → linkIn (frontLinks m row) e ≡ linkIn row e
+unfolding linkIn frontLinks
+link-front row m e l h = ap linkFrom (put.record-front linkWidth row m e (omega arith) l h)
+
 -- two records may be put in either order
 pub put-swap : (row : List ℕ) (d e : ℕ) (k l : Link) → (d ≡ e → ⊥) → putLink (putLink row d k) e l ≡ putLink (putLink row e l) d k
 unfolding putLink

@@ -11,7 +11,7 @@ use borrow.Author.Tests.{eq-eqb, ne-eqb}
 use Rattle.edition.specs.Limits.{noLink}
 use Rattle.rows.proofs.Best.{none-some, one-some}
 use Rattle.rows.proofs.Tests.{lastly}
-use Rattle.network.specs.Network.{names}
+use Rattle.network.specs.Network.{isParent}
 
 -- none of the nodes below u names e
 pub record Unnamed (parents : List ℕ) (e u : ℕ) : Type 0 where
@@ -30,10 +30,10 @@ module _ (parents : List ℕ) (e : ℕ) where
           none = rw add-one (lastly (λ j. eqb (getD parents j noLink) e ≡ false) u (s .none) (ne-eqb (getD parents u noLink) e (λ z. n (q ∙ z))));
         }
 
-    pub named : u < length parents → (v : ℕ) → v ≡ getD parents u noLink → v ≡ e → true ≡ names parents e
-    unfolding names
+    pub named : u < length parents → (v : ℕ) → v ≡ getD parents u noLink → v ≡ e → true ≡ isParent (λ u. getD parents u noLink) (length parents) e
+    unfolding isParent
     named l v q z = sym (one-some (λ u. eqb (getD parents u noLink) e) (length parents) u l (eq-eqb (getD parents u noLink) e (sym q ∙ z)))
 
-    pub unnamed-end : length parents ≤ u → false ≡ names parents e
-    unfolding names
+    pub unnamed-end : length parents ≤ u → false ≡ isParent (λ u. getD parents u noLink) (length parents) e
+    unfolding isParent
     unnamed-end l = sym (none-some (λ u. eqb (getD parents u noLink) e) (length parents) (λ j m. s .none j (omega arith)))

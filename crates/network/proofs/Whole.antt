@@ -12,36 +12,46 @@ use Rattle.edition.specs.declared.Search.{Search}
 use Rattle.edition.specs.Limits.{noLink, linkWidth, longest}
 use Rattle.rows.specs.Records.{recordIn}
 use Rattle.rows.proofs.Put as put
-use Rattle.network.specs.Network.{Net, linksIn, linkFrom, linkIn, netOf}
-use Rattle.network.proofs.Keeping.{link-none}
+use Rattle.network.specs.Network.{Net, linksIn, linkFrom, linkIn, frontLinks, netOf}
+use Rattle.network.proofs.Keeping.{link-none, link-front}
 
--- two rows of links with as many whole records, and the same links in them
-pub record Agree (a b : List ℕ) : Type 0 where
-  pub count : linksIn a ≡ linksIn b
-  pub records : (e : ℕ) → e < linksIn a → linkIn a e ≡ linkIn b e
-
-module _ (a b : List ℕ) (h : Agree a b) where
+-- two rows with as many links, and the same ones
+module _ (a b : List ℕ) (count : linksIn a ≡ linksIn b) (records : (e : ℕ) → e < linksIn a → linkIn a e ≡ linkIn b e) where
   link-agrees : (e : ℕ) → linkIn a e ≡ linkIn b e
   link-agrees e = go (ltb e (linksIn a)) refl
     where
       go : (t : Bool) → ltb e (linksIn a) ≡ t → linkIn a e ≡ linkIn b e
-      go true q = h .records e (ltb-true e (linksIn a) q)
+      go true q = records e (ltb-true e (linksIn a) q)
       go false q =
           let out = ltb-false e (linksIn a) q in
-          sym (link-none a e out) ∙ link-none b e (omega (arith, out, h .count))
+          sym (link-none a e out) ∙ link-none b e (omega (arith, out, count))
 
-  -- the same network
-  pub same-network : (parents : List ℕ) (search : Search) → netOf a parents search ≡ netOf b parents search
+  -- make the same network
+  pub same-links : (parents : List ℕ) (search : Search) → netOf a parents search ≡ netOf b parents search
   unfolding netOf
-  same-network parents search =
+  same-links parents search =
       λ i.
       record {
         nodes = length parents;
-        links = h .count i;
+        links = count i;
         link = λ e. link-agrees e i;
         parent = λ u. getD parents u noLink;
         search = search;
       }
+
+-- two rows of links with as many whole records, and the same numbers in them
+pub record Agree (a b : List ℕ) : Type 0 where
+  pub count : linksIn a ≡ linksIn b
+  pub numbers : frontLinks (linksIn a) a ≡ frontLinks (linksIn b) b
+
+-- the same network
+pub same-network : (a b : List ℕ) → Agree a b → (parents : List ℕ) (search : Search) → netOf a parents search ≡ netOf b parents search
+same-network a b h = same-links a b (h .count) (λ e l. links-agree e l)
+  where
+    links-agree : (e : ℕ) → e < linksIn a → linkIn a e ≡ linkIn b e
+    links-agree e l =
+        sym (link-front a (linksIn a) e l (omega arith))
+        ∙ (ap (λ (r : List ℕ). linkIn r e) (h .numbers) ∙ link-front b (linksIn b) e (omega (arith, l, h .count)) (omega arith))
 
 -- every answer that is a function of the network is the same for both
 pub same-answer : {A : Type 0} (a b : List ℕ) → Agree a b → (f : Net → A) (parents : List ℕ) (search : Search) → f (netOf a parents search) ≡ f (netOf b parents search)

@@ -47,9 +47,9 @@ frontLinks m row = firstRecords linkWidth m row
 unfoldable pub pastLinks : ℕ → List ℕ → List ℕ
 pastLinks m row = pastRecords linkWidth m row
 
--- Does a row of parents name link e?
-unfoldable pub names : List ℕ → ℕ → Bool
-names parents e = someTo (λ u. eqb (getD parents u noLink) e) (length parents)
+-- Is link e the parent link of one of n nodes? The root names 65,535.
+unfoldable pub isParent : (ℕ → ℕ) → ℕ → ℕ → Bool
+isParent parent n e = someTo (λ u. eqb (parent u) e) n
 
 -- The network of lent rows: n is the length of the row of parents, m that of the row of links.
 unfoldable pub netOf : List ℕ → List ℕ → Search → Net

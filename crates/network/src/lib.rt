@@ -5,7 +5,7 @@ ghost use lib.ListN.{length, getD};
 ghost use Rattle.edition.specs.Limits.{noLink, linkLimit, linkWidth};
 ghost use Rattle.edition.specs.declared.Why.the-variants.{NodeCount, LinkCount, BadRoot, BadDepth, BadEnds, BadMark, BadParent};
 ghost use Rattle.rows.specs.First.{firstTo, refuseIf, refuseAt};
-ghost use Rattle.network.specs.Network.{linksIn, linkIn, putLink, frontLinks, pastLinks, netOf, names, inService, touches as touchesIt, otherEnd};
+ghost use Rattle.network.specs.Network.{linksIn, linkIn, putLink, frontLinks, pastLinks, netOf, isParent, inService, touches as touchesIt, otherEnd};
 ghost use Rattle.network.specs.Records.{badNodes, badLinks, badRoot, badDepth, sizeVerdict, badEnds, badMark, unfit, badParent};
 use edition::Edition;
 use edition::Found;
@@ -30,7 +30,7 @@ pub fn links_in(links: &[u16]) -> usize
     links.len() / Memory::LINK
 }
 
-// The records of the first m links: that part of the lent row, no copy; all of it where it holds fewer.
+// The records of the first m links: that part of the lent row; all of it where it holds fewer.
 pub fn first_links(links: &[u16], m: usize) -> &[u16]
     ensures { λ r. ⌜ now r ≡ frontLinks m (now (links .entry)) ⌝ }
 {
@@ -40,7 +40,7 @@ pub fn first_links(links: &[u16], m: usize) -> &[u16]
     rows::first(links, m * Memory::LINK)
 }
 
-// What lies past the records of the first m links: that part of the lent row, no copy.
+// What lies past the records of the first m links: that part of the lent row.
 pub fn past_links(links: &[u16], m: usize) -> &[u16]
     ensures { λ r. ⌜ now r ≡ pastLinks m (now (links .entry)) ⌝ }
 {
@@ -103,9 +103,9 @@ pub fn parent_of(parents: &[u16], u: usize) -> u16
     rows::at(parents, u, Edition::no_link())
 }
 
-// Whether link e is some node's parent link.
+// Whether link e is some node's parent link; so is 65,535, which the root names.
 pub fn is_parent(parents: &[u16], e: usize) -> bool
-    ensures { λ r. ⌜ r ≡ names (now (parents .entry)) e ⌝ }
+    ensures { λ r. ⌜ r ≡ isParent (λ u. getD (now (parents .entry)) u noLink) (length (now (parents .entry))) e ⌝ }
 {
     let mut u = 0;
     while u < parents.len() {

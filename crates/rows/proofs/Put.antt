@@ -1,18 +1,18 @@
 -- Records in a row: one that is put is read back, and every other record and number stays. Assumes nothing.
-use mathlib.Core.Path.{_≡_, refl, sym, subst, ap, _∙_}
+use mathlib.Core.Path.{_≡_, refl, sym, ap, _∙_}
 use mathlib.Core.Bool.{Bool, true, false, true≢false}
 use mathlib.Core.List.{List, [], _∷_, _++_}
 use Prim.Native.Nat.{ℕ, zero, suc, _+_, _*_, _-_, _/_, _<_, _≤_}
 use native.Mathlib.Nat.{not-suc-le-zero, suc-mul, mul-le-mul-right, div-mul-le-self, le-div-iff-mul-le, mul-div-cancel}
 use native.Mathlib.Numerals.{add-one}
 use native.Mathlib.Omega.{arith}
-use lib.Dec.{eqb, ltb}
+use lib.Dec.{ltb}
 use lib.ListN.{length, getD, set, take, drop, length-set, length-drop, length-append, take-append-drop}
 use lib.Seq.{sets, length-sets, length-take-le, getD-set-same, getD-set-other, set-comm, getD-take, getD-drop, ext-getD, take-add, take-all, take-at, drop-at, drop-drop, sets-eq}
 use borrow.Author.Tests.{ltb-true, ltb-false, lt-ltb, le-ltb}
 use Rattle.rows.specs.Count.{rowsTo}
 use Rattle.rows.specs.Records.{recordsIn, recordIn, withRecord, firstRecords, pastRecords}
-use Rattle.rows.proofs.Records.{rows-cong, rows-length-in, rows-at-in}
+use Rattle.rows.proofs.Records.{rows-length-in, rows-at-in}
 
 -- what a run of stores leaves: the old numbers outside it, the stored ones in it
 sets-below : (vs l : List ℕ) (i j : ℕ) → j < i → getD (sets l i vs) j 0 ≡ getD l j 0
@@ -74,6 +74,25 @@ module _ (w : ℕ) (row : List ℕ) where
   pub row-records : (n : ℕ) → n ≤ recordsIn w row → row ≡ rowsTo (recordIn w row) n ++ pastRecords w n row
   unfolding pastRecords
   row-records n h = rw (front n h) (sym (take-append-drop (n * w) row))
+
+-- a record among the first n is the same in a row that is cut behind them
+pub record-front : (w : ℕ) (row : List ℕ) (n x : ℕ) → zero < w → x < n → n ≤ recordsIn w row → recordIn w (firstRecords w n row) x ≡ recordIn w row x
+unfolding firstRecords
+record-front w row n x pos l h =
+    ext-getD 0 (recordIn w (take (n * w) row) x) (recordIn w row x) (size ∙ sym (record-size w row x (omega (arith, l, h))))
+    (λ i m.
+    let low : i < w = omega (arith, m, size) in
+    record-number w (take (n * w) row) x i there low
+    ∙ (getD-take (n * w) row (x * w + i) 0 (omega (arith, before w x n l, low)) ∙ sym (record-number w row x i (omega (arith, l, h)) low)))
+  where
+    long : n * w ≤ length row
+    long = omega (arith, mul-le-mul-right {m = n} {n = length row / w} w h, div-mul-le-self (length row) w)
+
+    there : x < recordsIn w (take (n * w) row)
+    there = rw (length-take-le (n * w) row long, mul-div-cancel n pos) l
+
+    size : length (recordIn w (take (n * w) row) x) ≡ w
+    size = record-size w (take (n * w) row) x there
 
 module _ (w : ℕ) (row : List ℕ) (k : ℕ) (new : List ℕ) where
   put-is : k < recordsIn w row → withRecord w row k new ≡ sets row (k * w) new

@@ -14,11 +14,11 @@ recordsIn w row = length row / w
 unfoldable pub recordIn : ℕ → List ℕ → ℕ → List ℕ
 recordIn w row k = cond (ltb k (recordsIn w row)) (take w (drop (k * w) row)) []
 
--- The row with these numbers in record k; as it was where there is no such record.
+-- The row with these w numbers as record k; as it was where there is no such record.
 unfoldable pub withRecord : ℕ → List ℕ → ℕ → List ℕ → List ℕ
 withRecord w row k new = cond (ltb k (recordsIn w row)) (sets row (k * w) new) row
 
--- The first n records.
+-- The first n records; all of the row where it holds fewer.
 unfoldable pub firstRecords : ℕ → ℕ → List ℕ → List ℕ
 firstRecords w n row = take (n * w) row
 

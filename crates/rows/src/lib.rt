@@ -21,7 +21,7 @@ pub fn wide_at(row: &[u64], i: usize) -> u64
     if i < row.len() { row[i] } else { 0 }
 }
 
-// The first n numbers of a row, or all of it where it has fewer: that part of the lent row, no copy.
+// The first n numbers of a row, or all of it where it has fewer: that part of the lent row.
 pub fn first(row: &[u16], n: usize) -> &[u16]
     ensures { λ r. ⌜ now r ≡ take n (now (row .entry)) ⌝ }
 {

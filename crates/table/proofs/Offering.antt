@@ -10,8 +10,7 @@ use borrow.Author.Tests.{eqb-true, eq-eqb, ne-eqb}
 use Rattle.edition.specs.declared.Search.{Search}
 use Rattle.edition.specs.declared.Entry.{Entry}
 use Rattle.edition.specs.Limits.{wholeSearch}
-use Rattle.edition.specs.Entries.{entryRow}
-use Rattle.entries.specs.Row.{entriesIn, entryAt, putEntry}
+use Rattle.entries.specs.Row.{entryRow, entriesIn, entryAt, putEntry}
 use Rattle.network.specs.Network.{Net, netOf}
 use Rattle.tree.specs.Tree.{hops}
 use Rattle.tree.proofs.InRows.{treeIn}

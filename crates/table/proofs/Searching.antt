@@ -8,10 +8,10 @@ use lib.Dec.{eqb, ltb}
 use lib.ListN.{length}
 use borrow.Author.Tests.{eqb-true, eqb-false, ltb-true, ltb-false, lt-ltb, le-ltb}
 use Rattle.edition.specs.declared.Entry.{Entry}
-use Rattle.edition.specs.Entries.{rootState, bridgeState, blank, entryRow}
+use Rattle.edition.specs.Entries.{rootState, bridgeState, blank}
 use Rattle.network.specs.Network.{Net}
 use Rattle.swap.proofs.Prefixes.{entry-top, entry-none}
-use Rattle.entries.specs.Row.{entriesIn, standing, putEntry}
+use Rattle.entries.specs.Row.{entryRow, entriesIn, standing, putEntry}
 use Rattle.table.specs.Table.{marked}
 use Rattle.table.specs.Work.{Entries, want, startAt, Linked, LinkedTo}
 use Rattle.table.proofs.Slots.{entries-put}

@@ -1,15 +1,13 @@
 -- A row of entries: the entry of a node whose record is known, an entry that is written, the row as a list. Assumes nothing.
-use mathlib.Core.Path.{_≡_, refl, sym, subst, ap, ap₂, _∙_}
+use mathlib.Core.Path.{_≡_, refl, sym, subst, ap₂, _∙_}
 use mathlib.Core.Bool.{Bool, true, false, cond}
 use mathlib.Core.List.{List, _++_}
 use Prim.Native.Nat.{ℕ, _<_, _≤_}
 use native.Mathlib.Omega.{arith}
 use lib.Dec.{eqb}
-use lib.ListN.{length}
 use borrow.Author.Tests.{eqb-true, eqb-false}
 use Rattle.edition.specs.declared.Entry.{Entry}
-use Rattle.edition.specs.Entries.{entryRow}
-use Rattle.entries.specs.Row.{entriesIn, standing, entryAt, putEntry, pastEntries}
+use Rattle.entries.specs.Row.{entryRow, entriesIn, standing, entryAt, putEntry, pastEntries}
 use Rattle.entries.proofs.Keeping as keeping
 use Rattle.rows.specs.Count.{rowsTo}
 use Rattle.rows.proofs.Records.{rows-cong}

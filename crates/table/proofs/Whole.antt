@@ -12,8 +12,7 @@ use Rattle.edition.specs.declared.Verdict.{Verdict}
 use Rattle.edition.specs.declared.Verdict.the-variants.{Taken, Refused}
 use Rattle.edition.specs.declared.Why.the-variants.{NoRoom}
 use Rattle.edition.specs.Limits.{nodeLimit}
-use Rattle.edition.specs.Entries.{entryRow}
-use Rattle.entries.specs.Row.{entriesIn, entryAt, pastEntries}
+use Rattle.entries.specs.Row.{entryRow, entriesIn, entryAt, pastEntries}
 use Rattle.entries.proofs.Keeping.{entry-sized, entry-known, rows-standing}
 use Rattle.rows.specs.First.{refuseIf}
 use Rattle.rows.proofs.Refusing.{head-taken, rest-taken, if-taken}

@@ -9,8 +9,7 @@ use Rattle.edition.specs.declared.Verdict.the-variants.{Taken, Refused}
 use Rattle.edition.specs.declared.Why.the-variants.{NoRoute, NoRoom}
 use Rattle.edition.specs.declared.Entry.{Entry}
 use Rattle.edition.specs.Refusals.{made}
-use Rattle.edition.specs.Entries.{entryRow}
-use Rattle.entries.specs.Row.{entriesIn, standing, pastEntries}
+use Rattle.entries.specs.Row.{entryRow, entriesIn, standing, pastEntries}
 use Rattle.rows.specs.Count.{rowsTo}
 use Rattle.rows.specs.First.{refuseIf, firstly}
 use Rattle.network.specs.Network.{Net}

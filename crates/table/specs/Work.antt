@@ -6,7 +6,7 @@ use Prim.Native.Nat.{ℕ, suc, _+_, _-_, _^_, _<_, _≤_, max}
 use lib.Dec.{eqb, leb}
 use lib.ListN.{length, getD, set}
 use Rattle.edition.specs.Limits.{wholeSearch}
-use Rattle.edition.specs.Entries.{rootState, bridgeState, blank, entryRow}
+use Rattle.edition.specs.Entries.{rootState, bridgeState, blank}
 use Rattle.rows.specs.Count.{sumTo, maxTo, onlyIf}
 use Rattle.edition.specs.declared.Measure.the-variants.{Sum, Incr, Max}
 use Rattle.network.specs.Network.{Net, inService}
@@ -18,7 +18,7 @@ use Rattle.tree.specs.Work.{Along}
 use Rattle.swap.specs.Entry.{entry}
 use Rattle.swap.specs.Prefix.{firstLinks}
 use Rattle.table.specs.declared.Side.{Side}
-use Rattle.entries.specs.Row.{standing, pastEntries}
+use Rattle.entries.specs.Row.{entryRow, standing, pastEntries}
 use Rattle.table.specs.Table.{marked}
 
 -- a row holds f of each node

@@ -1,6 +1,5 @@
 -- `archive::fill_links` meets its contract. Assumes nothing.
 use Prim.Native.Nat.{_-_}
-use native.Mathlib.Omega.{arith}
 use Rattle.archive.proofs.Holding.{Linking, linking-start, linking-more, linking-end}
 use borrow.Author.Needs.{needs}
 use Rattle.archive.proofs.fill_links.Statement.{statement}

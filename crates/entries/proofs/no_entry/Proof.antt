@@ -1,7 +1,6 @@
 -- `entries::no_entry` meets its contract. Assumes nothing.
 use mathlib.Core.Path.{refl}
 use Rattle.entries.specs.Row.{entryFrom}
-use borrow.Author.Needs.{needs}
 use Rattle.entries.proofs.no_entry.Statement.{statement}
 use Rattle.entries.proofs.no_entry.Tie as tie
 

@@ -2,7 +2,7 @@
 use native.Mathlib.Omega.{arith}
 use native.Mathlib.Numerals.{towards-suc}
 use lib.ListN.{length-set}
-use Rattle.edition.specs.Entries.{entryRow}
+use Rattle.entries.specs.Row.{entryRow}
 use Rattle.entries.proofs.Numbers.{put-nothing, put-stored}
 use borrow.Author.Needs.{needs}
 use Rattle.entries.proofs.put_entry.Statement.{statement}

@@ -1,5 +1,4 @@
 -- `table::search_marked` meets its contract. Assumes nothing.
-use Rattle.table.proofs.Counts.{small}
 use native.Mathlib.Omega.{arith}
 use Rattle.table.proofs.Preparing.{holds-row, room-for, zeros, none-counted, nears, counts-all, weights-all, deeps-all, fresh-end}
 use borrow.Author.Needs.{needs}
