@@ -23,7 +23,8 @@ use Rattle.sound.specs.Sound.{recordVerdict, netVerdict}
 use Rattle.numbers.specs.Bytes.{wordMost}
 use Rattle.archive.specs.declared.Header.{Header}
 use Rattle.archive.specs.Parts.{blockCount}
-use Rattle.archive.specs.Reader.{nodesRead, linksRead, searchRead, headRead, netRead, blockRefusal, badEntry, Rows, tight, headVerdict, restVerdict, readVerdict}
+use Rattle.archive.specs.Reader.{nodesRead, linksRead, searchRead, headRead, netRead, blockRefusal, badEntry, Rows, tight, headVerdict}
+use Rattle.archive.specs.Reader.{restVerdict, readVerdict}
 use Rattle.archive.specs.Work.{Blocked, badStored, contentVerdict}
 use Rattle.archive.proofs.Reading.{nodes-read, links-read}
 

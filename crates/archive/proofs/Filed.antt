@@ -6,7 +6,8 @@ use native.Mathlib.Nat.{mul-le-mul-right}
 use native.Mathlib.Omega.{arith}
 use lib.ListN.{length, take, drop, replicate, length-append, length-replicate}
 use borrow.Author.Tests.{ne-eqb, le-leb, lt-leb}
-use Rattle.edition.specs.Stored.{blockBytes, frontBytes, payloadBytes, headerKind, linksKind, tableKind, headerBytes, linkBytes, entryBytes, headersABlock, linksABlock, entriesABlock}
+use Rattle.edition.specs.Stored.{blockBytes, frontBytes, payloadBytes, headerKind, linksKind, tableKind, headerBytes, linkBytes, entryBytes}
+use Rattle.edition.specs.Stored.{headersABlock, linksABlock, entriesABlock}
 use Rattle.rows.specs.Count.{rowsTo}
 use Rattle.rows.proofs.Records.{rows-at, rows-length}
 use Rattle.network.specs.Network.{Net}

@@ -19,7 +19,8 @@ use Rattle.sound.specs.Sound.{netVerdict}
 use Rattle.table.specs.Table.{table, tableVerdict, tableRow}
 use Rattle.archive.specs.declared.Header.{Header}
 use Rattle.archive.specs.declared.ReadAnswer.the-variants.{Is, Not}
-use Rattle.archive.specs.Reader.{nodesRead, linksRead, headRead, linksHeld, parentsHeld, netRead, Rows, tight, headVerdict, restVerdict, readVerdict, readAnswer, rowsRead}
+use Rattle.archive.specs.Reader.{nodesRead, linksRead, headRead, linksHeld, parentsHeld, netRead, Rows, tight, headVerdict, restVerdict}
+use Rattle.archive.specs.Reader.{readVerdict, readAnswer, rowsRead}
 use Rattle.archive.specs.Work.{Blocked}
 use Rattle.archive.proofs.Reading.{nodes-read}
 use Rattle.archive.proofs.Deciding.{sizes-taken, records-alone}

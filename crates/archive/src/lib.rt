@@ -14,7 +14,8 @@ ghost use Rattle.archive.specs.Work.{heldBytes, recordBy, laid, Held, Ta
 ghost use Rattle.rows.specs.Count.{rowWith};
 ghost use Rattle.rows.specs.Lists.{same};
 ghost use Rattle.rows.specs.First.{firstTo, verdictTo};
-ghost use Rattle.archive.specs.Reader.{blockRefusal, headRead, netRead, unequal, headVerdict, tight, readVerdict, readAnswer, rowsRead, nodesRead, linksRead, storedLink, linksHeld, parentsHeld};
+ghost use Rattle.archive.specs.Reader.{Rows, blockRefusal, headRead, netRead, unequal, headVerdict, tight, readVerdict, readAnswer, rowsRead};
+ghost use Rattle.archive.specs.Reader.{nodesRead, linksRead, storedLink, linksHeld, parentsHeld};
 ghost use Rattle.table.specs.Table.{table};
 ghost use Rattle.archive.specs.Writer.{blockOf, fileOf, fileLength, writeVerdict, writeAnswer, writtenRow};
 ghost use Rattle.edition.specs.declared.Verdict.the-variants.{Taken};
@@ -147,7 +148,8 @@ fn put_record(
     at: usize,
 )
     requires { ⌜ (length (now parents) ≤ nodeLimit) × (linksIn (now links) ≤ linkLimit) ⌝ }
-    ensures { λ _. ⌜ now (block .exit) ≡ recordPut at (heldBytes kind) (recordBy (now (links .entry)) (now (parents .entry)) search (now (entries .entry)) kind r) (now (block .entry)) ⌝ }
+    ensures { λ _.
+        ⌜ now (block .exit) ≡ recordPut at (heldBytes kind) (recordBy (now (links .entry)) (now (parents .entry)) search (now (entries .entry)) kind r) (now (block .entry)) ⌝ }
 {
     if kind == Edition::HEADER_KIND {
         let n = parents.len() as u16;
@@ -175,8 +177,11 @@ fn put_records(
     part: Part,
     block: &mut [u8],
 )
-    requires { ⌜ Held part (length (now block)) × (length (now parents) ≤ nodeLimit) × (linksIn (now links) ≤ linkLimit) ⌝ }
-    ensures { λ _. ⌜ now (block .exit) ≡ laid (recordBy (now (links .entry)) (now (parents .entry)) search (now (entries .entry)) (part .kind)) part (now (block .entry)) ⌝ }
+    requires { ⌜ Held part (length (now block))
+        × (length (now parents) ≤ nodeLimit)
+        × (linksIn (now links) ≤ linkLimit) ⌝ }
+    ensures { λ _.
+        ⌜ now (block .exit) ≡ laid (recordBy (now (links .entry)) (now (parents .entry)) search (now (entries .entry)) (part .kind)) part (now (block .entry)) ⌝ }
 {
     let size = held_bytes(part.kind);
     let mut r = 0;
@@ -204,8 +209,13 @@ fn write_block(
     i: usize,
     block: &mut [u8],
 )
-    requires { ⌜ Tabled (netOf (now links) (now parents) search) (now entries) × (i < blockCount (length (now parents)) (linksIn (now links))) × (length (now block) ≡ blockBytes) ⌝ }
-    ensures { λ _. ⌜ now (block .exit) ≡ blockOf (netOf (now (links .entry)) (now (parents .entry)) search) i ⌝ }
+    requires { let g = netOf (now links) (now parents) search in
+        ⌜ Tabled g (now entries)
+        × (i < blockCount (length (now parents)) (linksIn (now links)))
+        × (length (now block) ≡ blockBytes) ⌝ }
+    ensures { λ _.
+        let g = netOf (now (links .entry)) (now (parents .entry)) search in
+        ⌜ now (block .exit) ≡ blockOf g i ⌝ }
 {
     let part = part_at(parents.len(), network::links_in(links), i);
     put_records(links, parents, search, entries, part, block);
@@ -222,8 +232,12 @@ fn file_length(n: usize, m: usize) -> usize
 
 // The blocks of the file, one after the other.
 fn write_blocks(links: &[u16], parents: &[u16], search: Search, entries: &[u64], file: &mut [u8])
-    requires { ⌜ Tabled (netOf (now links) (now parents) search) (now entries) × (fileLength (netOf (now links) (now parents) search) ≤ length (now file)) ⌝ }
-    ensures { λ _. ⌜ now (file .exit) ≡ fileOf (netOf (now (links .entry)) (now (parents .entry)) search) ++ drop (fileLength (netOf (now (links .entry)) (now (parents .entry)) search)) (now (file .entry)) ⌝ }
+    requires { let g = netOf (now links) (now parents) search in
+        ⌜ Tabled g (now entries)
+        × (fileLength g ≤ length (now file)) ⌝ }
+    ensures { λ _.
+        let g = netOf (now (links .entry)) (now (parents .entry)) search in
+        ⌜ now (file .exit) ≡ fileOf g ++ drop (fileLength g) (now (file .entry)) ⌝ }
 {
     let count = block_count(parents.len(), network::links_in(links));
     let mut i = 0;
@@ -243,7 +257,9 @@ fn write_blocks(links: &[u16], parents: &[u16], search: Search, entries: &[u64],
 
 // Whether a file can be written: refusals 1 to 9, then 10 where fewer bytes are lent than the file needs.
 pub fn check_write(links: &[u16], parents: &[u16], search: Search, file: &[u8]) -> Verdict
-    ensures { λ r. ⌜ r ≡ writeVerdict (netOf (now (links .entry)) (now (parents .entry)) search) (now (file .entry)) ⌝ }
+    ensures { λ r.
+        let g = netOf (now (links .entry)) (now (parents .entry)) search in
+        ⌜ r ≡ writeVerdict g (now (file .entry)) ⌝ }
 {
     let said = sound::check_network(links, parents, search);
     let Checked::Sound(sizes) = said else {
@@ -256,7 +272,10 @@ pub fn check_write(links: &[u16], parents: &[u16], search: Search, file: &[u8]) 
 // The file of a network that is sound and has room, and its length.
 fn write_sound(links: &[u16], parents: &[u16], search: Search, file: &mut [u8]) -> usize
     requires { ⌜ writeVerdict (netOf (now links) (now parents) search) (now file) ≡ Taken ⌝ }
-    ensures { λ r. ⌜ (r ≡ fileLength (netOf (now (links .entry)) (now (parents .entry)) search)) × (now (file .exit) ≡ fileOf (netOf (now (links .entry)) (now (parents .entry)) search) ++ drop (fileLength (netOf (now (links .entry)) (now (parents .entry)) search)) (now (file .entry))) ⌝ }
+    ensures { λ r.
+        let g = netOf (now (links .entry)) (now (parents .entry)) search in
+        ⌜ (r ≡ fileLength g)
+        × (now (file .exit) ≡ fileOf g ++ drop (fileLength g) (now (file .entry))) ⌝ }
 {
     let mut entries = [0u64; Memory::ENTRY_ROW];
     table::table(links, parents, search, &mut entries);
@@ -266,7 +285,10 @@ fn write_sound(links: &[u16], parents: &[u16], search: Search, file: &mut [u8]) 
 
 // The file of a network and depth into lent bytes, and its length. Nothing is written on a refusal, nor past the file.
 pub fn write(links: &[u16], parents: &[u16], search: Search, file: &mut [u8]) -> WriteAnswer
-    ensures { λ r. ⌜ (r ≡ writeAnswer (netOf (now (links .entry)) (now (parents .entry)) search) (now (file .entry))) × (now (file .exit) ≡ writtenRow (netOf (now (links .entry)) (now (parents .entry)) search) (now (file .entry))) ⌝ }
+    ensures { λ r.
+        let g = netOf (now (links .entry)) (now (parents .entry)) search in
+        ⌜ (r ≡ writeAnswer g (now (file .entry)))
+        × (now (file .exit) ≡ writtenRow g (now (file .entry))) ⌝ }
 {
     let said = check_write(links, parents, search, file);
     match said {
@@ -277,7 +299,10 @@ pub fn write(links: &[u16], parents: &[u16], search: Search, file: &mut [u8]) ->
 
 // What block i of a file of n nodes and m links is refused for.
 fn check_part(file: &[u8], n: usize, m: usize, i: usize) -> Verdict
-    requires { ⌜ (n ≤ wordMost) × (m ≤ wordMost) × (i ≤ wordMost) × (i * blockBytes + blockBytes ≤ length (now file)) ⌝ }
+    requires { ⌜ (n ≤ wordMost)
+        × (m ≤ wordMost)
+        × (i ≤ wordMost)
+        × (i * blockBytes + blockBytes ≤ length (now file)) ⌝ }
     ensures { λ r. ⌜ r ≡ blockRefusal (now (file .entry)) n m i ⌝ }
 {
     let part = part_at(n, m, i);
@@ -413,7 +438,8 @@ fn fill_parents(file: &[u8], m: usize, n: usize, row: &mut [u16])
 // Whether the bytes of a file from a place on are a record.
 fn is_same(file: &[u8], at: usize, own: &[u8]) -> bool
     requires { ⌜ at + length (now own) ≤ length (now file) ⌝ }
-    ensures { λ r. ⌜ r ≡ same (take (length (now (own .entry))) (drop at (now (file .entry)))) (now (own .entry)) ⌝ }
+    ensures { λ r.
+        ⌜ r ≡ same (take (length (now (own .entry))) (drop at (now (file .entry)))) (now (own .entry)) ⌝ }
 {
     let mut j = 0;
     while j < own.len() {
@@ -442,8 +468,11 @@ fn is_bad_entry(file: &[u8], m: usize, parents: &[u16], entries: &[u64], x: usiz
 
 // The lowest node whose stored entry is not the one of a row of entries.
 fn seek_bad_entry(file: &[u8], m: usize, parents: &[u16], entries: &[u64]) -> Found
-    requires { ⌜ (m ≤ wordMost) × (length (now parents) ≤ nodeLimit) × Placed (now file) m (length (now parents)) ⌝ }
-    ensures { λ r. ⌜ r ≡ firstTo (badBy (now (file .entry)) m (now (parents .entry)) (now (entries .entry))) (length (now (parents .entry))) ⌝ }
+    requires { ⌜ (m ≤ wordMost)
+        × (length (now parents) ≤ nodeLimit)
+        × Placed (now file) m (length (now parents)) ⌝ }
+    ensures { λ r.
+        ⌜ r ≡ firstTo (badBy (now (file .entry)) m (now (parents .entry)) (now (entries .entry))) (length (now (parents .entry))) ⌝ }
 {
     let mut found = Found::Nothing;
     let mut x = 0;
@@ -456,8 +485,12 @@ fn seek_bad_entry(file: &[u8], m: usize, parents: &[u16], entries: &[u64]) -> Fo
 
 // The lowest node whose stored entry is not the one worked out.
 fn first_bad_entry(file: &[u8], links: &[u16], parents: &[u16], search: Search) -> Found
-    requires { ⌜ (netVerdict (netOf (now links) (now parents) search) ≡ Taken) × Placed (now file) (linksIn (now links)) (length (now parents)) ⌝ }
-    ensures { λ r. ⌜ r ≡ firstTo (badStored (now (file .entry)) (netOf (now (links .entry)) (now (parents .entry)) search)) (length (now (parents .entry))) ⌝ }
+    requires { let g = netOf (now links) (now parents) search in
+        ⌜ (netVerdict g ≡ Taken)
+        × Placed (now file) (linksIn (now links)) (length (now parents)) ⌝ }
+    ensures { λ r.
+        let g = netOf (now (links .entry)) (now (parents .entry)) search in
+        ⌜ r ≡ firstTo (badStored (now (file .entry)) g) (length (now (parents .entry))) ⌝ }
 {
     let mut entries = [0u64; Memory::ENTRY_ROW];
     table::table(links, parents, search, &mut entries);
@@ -473,7 +506,9 @@ fn check_content(
     tight: bool,
 ) -> Verdict
     requires { ⌜ Placed (now file) (linksIn (now links)) (length (now parents)) ⌝ }
-    ensures { λ r. ⌜ r ≡ contentVerdict (now (file .entry)) (netOf (now (links .entry)) (now (parents .entry)) search) tight ⌝ }
+    ensures { λ r.
+        let g = netOf (now (links .entry)) (now (parents .entry)) search in
+        ⌜ r ≡ contentVerdict (now (file .entry)) g tight ⌝ }
 {
     let said = sound::check_network(links, parents, search);
     let Checked::Sound(_) = said else {
@@ -508,7 +543,9 @@ fn check_records(file: &[u8], head: Header, tight: bool) -> Verdict
 
 // Whether a lent row is too short for what a file holds.
 fn is_tight(head: Header, links: &[u16], parents: &[u16], entries: &[u64]) -> bool
-    ensures { λ r. ⌜ r ≡ tight (head .nodes) (head .links) (record { links = now (links .entry); parents = now (parents .entry); entries = now (entries .entry) }) ⌝ }
+    ensures { λ r.
+        let rows : Rows = record { links = now (links .entry); parents = now (parents .entry); entries = now (entries .entry) } in
+        ⌜ r ≡ tight (head .nodes) (head .links) rows ⌝ }
 {
     if network::links_in(links) < head.links {
         return true;
@@ -521,7 +558,9 @@ fn is_tight(head: Header, links: &[u16], parents: &[u16], entries: &[u64]) -> bo
 
 // Whether a file is accepted: refusals in the order for a file. Nothing is written.
 pub fn check_read(file: &[u8], links: &[u16], parents: &[u16], entries: &[u64]) -> Verdict
-    ensures { λ r. ⌜ r ≡ readVerdict (now (file .entry)) (record { links = now (links .entry); parents = now (parents .entry); entries = now (entries .entry) }) ⌝ }
+    ensures { λ r.
+        let rows : Rows = record { links = now (links .entry); parents = now (parents .entry); entries = now (entries .entry) } in
+        ⌜ r ≡ readVerdict (now (file .entry)) rows ⌝ }
 {
     let first = check_head(file);
     let Verdict::Taken = first else {
@@ -542,8 +581,13 @@ pub fn check_read(file: &[u8], links: &[u16], parents: &[u16], entries: &[u64]) 
 
 // What an accepted file holds, at the beginning of the lent rows.
 fn fill_rows(file: &[u8], links: &mut [u16], parents: &mut [u16], entries: &mut [u64]) -> Header
-    requires { ⌜ readVerdict (now file) (record { links = now links; parents = now parents; entries = now entries }) ≡ Taken ⌝ }
-    ensures { λ r. ⌜ (r ≡ headRead (now (file .entry))) × (now (links .exit) ≡ linksHeld (now (file .entry)) ++ pastLinks (linksRead (now (file .entry))) (now (links .entry))) × (now (parents .exit) ≡ parentsHeld (now (file .entry)) ++ drop (nodesRead (now (file .entry))) (now (parents .entry))) × (now (entries .exit) ≡ table (netRead (now (file .entry))) ++ pastEntries (nodesRead (now (file .entry))) (now (entries .entry))) ⌝ }
+    requires { let rows : Rows = record { links = now links; parents = now parents; entries = now entries } in
+        ⌜ readVerdict (now file) rows ≡ Taken ⌝ }
+    ensures { λ r.
+        ⌜ (r ≡ headRead (now (file .entry)))
+        × (now (links .exit) ≡ linksHeld (now (file .entry)) ++ pastLinks (linksRead (now (file .entry))) (now (links .entry)))
+        × (now (parents .exit) ≡ parentsHeld (now (file .entry)) ++ drop (nodesRead (now (file .entry))) (now (parents .entry)))
+        × (now (entries .exit) ≡ table (netRead (now (file .entry))) ++ pastEntries (nodesRead (now (file .entry))) (now (entries .entry))) ⌝ }
 {
     let head = header_of(file);
     let n = head.nodes;
@@ -562,7 +606,12 @@ fn fill_rows(file: &[u8], links: &mut [u16], parents: &mut [u16], entries: &mut 
 // The rows of links, parents and entries that a file holds, and what its header says. Accepted is the one file of its network and
 // depth, and no other. Nothing is written on a refusal, nor past the records.
 pub fn read(file: &[u8], links: &mut [u16], parents: &mut [u16], entries: &mut [u64]) -> ReadAnswer
-    ensures { λ r. ⌜ (r ≡ readAnswer (now (file .entry)) (record { links = now (links .entry); parents = now (parents .entry); entries = now (entries .entry) })) × (now (links .exit) ≡ rowsRead (now (file .entry)) (record { links = now (links .entry); parents = now (parents .entry); entries = now (entries .entry) }) .links) × (now (parents .exit) ≡ rowsRead (now (file .entry)) (record { links = now (links .entry); parents = now (parents .entry); entries = now (entries .entry) }) .parents) × (now (entries .exit) ≡ rowsRead (now (file .entry)) (record { links = now (links .entry); parents = now (parents .entry); entries = now (entries .entry) }) .entries) ⌝ }
+    ensures { λ r.
+        let rows : Rows = record { links = now (links .entry); parents = now (parents .entry); entries = now (entries .entry) } in
+        ⌜ (r ≡ readAnswer (now (file .entry)) rows)
+        × (now (links .exit) ≡ rowsRead (now (file .entry)) rows .links)
+        × (now (parents .exit) ≡ rowsRead (now (file .entry)) rows .parents)
+        × (now (entries .exit) ≡ rowsRead (now (file .entry)) rows .entries) ⌝ }
 {
     let said = check_read(file, links, parents, entries);
     match said {

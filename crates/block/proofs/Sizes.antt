@@ -5,7 +5,8 @@ use Prim.Native.Nat.{ℕ, _+_, _*_, _≤_}
 use native.Mathlib.Omega.{arith}
 use lib.Dec.{eqb, ltb}
 use borrow.Author.Tests.{ltb-false}
-use Rattle.edition.specs.Stored.{blockBytes, frontBytes, payloadBytes, headerKind, linksKind, tableKind, headerBytes, linkBytes, entryBytes, headersABlock, linksABlock, entriesABlock}
+use Rattle.edition.specs.Stored.{blockBytes, frontBytes, payloadBytes, headerKind, linksKind, tableKind, headerBytes, linkBytes, entryBytes}
+use Rattle.edition.specs.Stored.{headersABlock, linksABlock, entriesABlock}
 use Rattle.rows.proofs.Tests.{or-false}
 use Rattle.block.specs.Block.{capacity, recordBytes, unheard}
 

@@ -7,7 +7,8 @@ use lib.ListN.{length, take, drop, replicate}
 use Rattle.edition.specs.declared.Verdict.{Verdict}
 use Rattle.edition.specs.declared.Why.the-variants.{BadLength, BadCheck, BadBlock}
 use Rattle.edition.specs.Refusals.{made}
-use Rattle.edition.specs.Stored.{editionOne, blockBytes, frontBytes, payloadBytes, headerKind, linksKind, tableKind, headerBytes, linkBytes, entryBytes, headersABlock, linksABlock, entriesABlock}
+use Rattle.edition.specs.Stored.{editionOne, blockBytes, frontBytes, payloadBytes, headerKind, linksKind, tableKind, headerBytes, linkBytes}
+use Rattle.edition.specs.Stored.{entryBytes, headersABlock, linksABlock, entriesABlock}
 use Rattle.rows.specs.Count.{someTo}
 use Rattle.rows.specs.First.{refuseIf, firstly}
 use Rattle.rows.specs.Lists.{same}

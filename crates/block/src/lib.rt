@@ -6,7 +6,8 @@ ghost use lib.ListN.{length};
 ghost use Rattle.edition.specs.Stored.{blockBytes, frontBytes, entryBytes};
 ghost use Rattle.rows.specs.Count.{someTo};
 ghost use Rattle.block.specs.Bytes.{onesAdd, dirty};
-ghost use Rattle.block.specs.Block.{capacity, recordBytes, checkOf, dirtyEntry, badFiller, unheard, badBlock, blockVerdict, payload as payloadOf, payloadPlace, sealed};
+ghost use Rattle.block.specs.Block.{capacity, recordBytes, checkOf, dirtyEntry, badFiller, unheard, badBlock, blockVerdict};
+ghost use Rattle.block.specs.Block.{payload as payloadOf, payloadPlace, sealed};
 ghost use Rattle.block.specs.Work.{blockWords, wordOf, badFront, withFront, cleared};
 use edition::Edition;
 use edition::Refusal;
@@ -227,7 +228,9 @@ pub fn check_block(kind: u8, number: u16, used: u16, b: &[u8]) -> Verdict
 // The payload of a sound block, as that part of the lent bytes and no copy; an empty part otherwise.
 pub fn payload(kind: u8, number: u16, used: u16, b: &[u8]) -> &[u8]
     ensures part { λ r. ⌜ now r ≡ payloadOf kind number used (now (b .entry)) ⌝ }
-    ensures place { λ r. ⌜ (r .ptr .0 ≡ b .entry .ptr .0) × (r .ptr .1 ≡ payloadPlace kind number used (now (b .entry)) + b .entry .ptr .1) ⌝ }
+    ensures place { λ r.
+        ⌜ (r .ptr .0 ≡ b .entry .ptr .0)
+        × (r .ptr .1 ≡ payloadPlace kind number used (now (b .entry)) + b .entry .ptr .1) ⌝ }
 {
     match check_block(kind, number, used, b) {
         Verdict::Taken => &b[Edition::FRONT_BYTES..Edition::BLOCK_BYTES],

@@ -7,7 +7,7 @@ ghost use Rattle.network.specs.Network.{netOf, linksIn};
 ghost use Rattle.tree.specs.Tree.{treeOf, under};
 ghost use Rattle.sound.specs.Sound.{netVerdict};
 ghost use Rattle.table.specs.Work.{Moved};
-ghost use Rattle.change.specs.Change.{breaks, changeVerdict, setLink, mended, changed};
+ghost use Rattle.change.specs.Change.{breaks, changeVerdict, setLink, mended, Lent, changed};
 ghost use Rattle.change.specs.Work.{flip, flippedAt};
 use edition::Change;
 use edition::Edition;
@@ -19,7 +19,9 @@ use network::Link;
 
 // Whether the change sets a link in service whose new length breaks shortness.
 fn breaks_short(links: &[u16], parents: &[u16], search: Search, change: Change) -> bool
-    requires { ⌜ (netVerdict (netOf (now links) (now parents) search) ≡ Taken) × (change .link < linksIn (now links)) ⌝ }
+    requires { let g = netOf (now links) (now parents) search in
+        ⌜ (netVerdict g ≡ Taken)
+        × (change .link < linksIn (now links)) ⌝ }
     ensures { λ r. ⌜ r ≡ breaks (netOf (now (links .entry)) (now (parents .entry)) search) change ⌝ }
 {
     if change.mark != Edition::SERVED {
@@ -41,7 +43,9 @@ pub fn check_change(
     entries: &[u64],
     change: Change,
 ) -> Verdict
-    ensures { λ r. ⌜ r ≡ changeVerdict (netOf (now (links .entry)) (now (parents .entry)) search) (now (entries .entry)) change ⌝ }
+    ensures { λ r.
+        let g = netOf (now (links .entry)) (now (parents .entry)) search in
+        ⌜ r ≡ changeVerdict g (now (entries .entry)) change ⌝ }
 {
     let e = change.link as usize;
     let table = table::check_table(links, parents, search, entries);
@@ -84,8 +88,14 @@ fn flip_at(marks: &mut [u64], c: usize)
 
 // The marks of the nodes on the route of u become the other ones.
 fn flip_up(links: &[u16], parents: &[u16], search: Search, marks: &mut [u64], u: usize)
-    requires { ⌜ (netVerdict (netOf (now links) (now parents) search) ≡ Taken) × (u < length (now parents)) × (length (now parents) ≤ length (now marks)) ⌝ }
-    ensures { λ _. ⌜ Moved (λ x. under (treeOf (netOf (now (links .entry)) (now (parents .entry)) search)) x u) flip (now (marks .entry)) (now (marks .exit)) ⌝ }
+    requires { let g = netOf (now links) (now parents) search in
+        let n = length (now parents) in
+        ⌜ (netVerdict g ≡ Taken)
+        × (u < n)
+        × (n ≤ length (now marks)) ⌝ }
+    ensures { λ _.
+        let g = netOf (now (links .entry)) (now (parents .entry)) search in
+        ⌜ Moved (λ x. under (treeOf g) x u) flip (now (marks .entry)) (now (marks .exit)) ⌝ }
 {
     let mut c = u;
     while c != search.root as usize {
@@ -97,7 +107,8 @@ fn flip_up(links: &[u16], parents: &[u16], search: Search, marks: &mut [u64], u:
 
 // Stores a length and a service mark in the record of link e, whose other numbers stay.
 fn set_link(links: &mut [u16], e: usize, length: u16, mark: u16)
-    ensures { λ _. ⌜ now (links .exit) ≡ setLink (now (links .entry)) (record { link = e; mark = mark; length = length }) ⌝ }
+    ensures { λ _.
+        ⌜ now (links .exit) ≡ setLink (now (links .entry)) (record { link = e; mark = mark; length = length }) ⌝ }
 {
     let l = network::link_at(links, e);
     network::put_link(
@@ -116,7 +127,10 @@ fn set_link(links: &mut [u16], e: usize, length: u16, mark: u16)
 // link's ends.
 fn apply(links: &mut [u16], parents: &[u16], search: Search, entries: &mut [u64], change: Change)
     requires { ⌜ changeVerdict (netOf (now links) (now parents) search) (now entries) change ≡ Taken ⌝ }
-    ensures { λ _. ⌜ (now (links .exit) ≡ setLink (now (links .entry)) change) × (now (entries .exit) ≡ mended (netOf (now (links .entry)) (now (parents .entry)) search) (netOf (setLink (now (links .entry)) change) (now (parents .entry)) search) (change .link) (now (entries .entry))) ⌝ }
+    ensures { λ _.
+        let g = netOf (now (links .entry)) (now (parents .entry)) search in
+        ⌜ (now (links .exit) ≡ setLink (now (links .entry)) change)
+        × (now (entries .exit) ≡ mended g (netOf (setLink (now (links .entry)) change) (now (parents .entry)) search) (change .link) (now (entries .entry))) ⌝ }
 {
     let l = network::link_at(links, change.link as usize);
     let mut marks = [0u64; Memory::NODES];
@@ -135,7 +149,12 @@ pub fn change(
     entries: &mut [u64],
     change: Change,
 ) -> Verdict
-    ensures { λ r. ⌜ (r ≡ changeVerdict (netOf (now (links .entry)) (now (parents .entry)) search) (now (entries .entry)) change) × (now (links .exit) ≡ changed (now (parents .entry)) search change (record { links = now (links .entry); entries = now (entries .entry) }) .links) × (now (entries .exit) ≡ changed (now (parents .entry)) search change (record { links = now (links .entry); entries = now (entries .entry) }) .entries) ⌝ }
+    ensures { λ r.
+        let lent : Lent = record { links = now (links .entry); entries = now (entries .entry) } in
+        let g = netOf (now (links .entry)) (now (parents .entry)) search in
+        ⌜ (r ≡ changeVerdict g (now (entries .entry)) change)
+        × (now (links .exit) ≡ changed (now (parents .entry)) search change lent .links)
+        × (now (entries .exit) ≡ changed (now (parents .entry)) search change lent .entries) ⌝ }
 {
     let said = check_change(links, parents, search, entries, change);
     let Verdict::Taken = said else {

@@ -26,7 +26,8 @@ use Rattle.archive.specs.declared.ReadAnswer.the-variants as read
 use Rattle.archive.specs.Writer.{fileLength, writeVerdict, writeAnswer, writtenRow}
 use Rattle.archive.specs.Reader.{headRead, Rows, readVerdict, readAnswer, rowsRead}
 use Rattle.doeragyeol.specs.Word.{wordOf, answered, told}
-use Rattle.doeragyeol.specs.Calls.{lentRows, checkSaid, sizesRow, mapSaid, wordsRow, openRow, writeSaid, fileRow, lengthRow, readSaid, rowsLeft, headerRow}
+use Rattle.doeragyeol.specs.Calls.{lentRows, checkSaid, sizesRow, mapSaid, wordsRow, openRow, writeSaid, fileRow, lengthRow, readSaid, rowsLeft}
+use Rattle.doeragyeol.specs.Calls.{headerRow}
 use Rattle.doeragyeol.proofs.Telling.{room-lacks, room-there, sound-is, sound-not, map-is, map-not, write-is, write-not, read-is, read-not}
 
 -- the word and the row of values, by the verdict

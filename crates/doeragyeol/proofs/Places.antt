@@ -15,7 +15,8 @@ use Rattle.edition.specs.declared.Search.{Search}
 use Rattle.edition.specs.declared.Verdict.{Verdict}
 use Rattle.edition.specs.declared.Verdict.the-variants.{Taken, Refused}
 use Rattle.edition.specs.declared.Why.{Why}
-use Rattle.edition.specs.declared.Why.the-variants.{NodeCount, LinkCount, BadRoot, BadDepth, BadEnds, BadMark, BadParent, NoRoute, NotShort, NoRoom, LinkMissing, TreeLink, BreaksShort, BadLength, BadCheck, BadBlock, BadEntry}
+use Rattle.edition.specs.declared.Why.the-variants.{NodeCount, LinkCount, BadRoot, BadDepth, BadEnds, BadMark, BadParent, NoRoute, NotShort, NoRoom}
+use Rattle.edition.specs.declared.Why.the-variants.{LinkMissing, TreeLink, BreaksShort, BadLength, BadCheck, BadBlock, BadEntry}
 use Rattle.edition.specs.Limits.{memoryLimits}
 use Rattle.edition.specs.Stored.{editionLimits}
 use Rattle.rows.specs.First.{firstTo, refusedAt, refuseAt, refuseIf, firstly, verdictTo}

@@ -7,9 +7,10 @@ ghost use Rattle.edition.specs.declared.Verdict.the-variants.{Refused};
 ghost use Rattle.edition.specs.declared.Why.the-variants.{NoRoom};
 ghost use Rattle.edition.specs.Refusals.{refused};
 ghost use Rattle.table.specs.Table.{tableVerdict, tableRow};
-ghost use Rattle.change.specs.Change.{changeVerdict, changed};
+ghost use Rattle.change.specs.Change.{changeVerdict, Lent, changed};
 ghost use Rattle.doeragyeol.specs.Word.{placeMost, wordOf, answered};
-ghost use Rattle.doeragyeol.specs.Calls.{lentNet, lentRows, checkSaid, sizesRow, mapSaid, wordsRow, openRow, writeSaid, fileRow, lengthRow, readSaid, rowsLeft, headerRow};
+ghost use Rattle.doeragyeol.specs.Calls.{lentNet, lentRows, checkSaid, sizesRow, mapSaid, wordsRow, openRow, writeSaid, fileRow, lengthRow};
+ghost use Rattle.doeragyeol.specs.Calls.{readSaid, rowsLeft, headerRow};
 use archive::Header;
 use archive::ReadAnswer;
 use archive::WriteAnswer;
@@ -96,7 +97,8 @@ fn put_two(row: &mut [u64], a: u64, b: u64)
 // Puts what a header says at the beginning of a row.
 fn put_header(row: &mut [u64], head: Header)
     requires { ⌜ 4 ≤ length (now row) ⌝ }
-    ensures { λ _. ⌜ now (row .exit) ≡ answered (head .nodes ∷ head .links ∷ head .search .root ∷ head .search .depth ∷ []) (now (row .entry)) ⌝ }
+    ensures { λ _.
+        ⌜ now (row .exit) ≡ answered (head .nodes ∷ head .links ∷ head .search .root ∷ head .search .depth ∷ []) (now (row .entry)) ⌝ }
 {
     let search = head.search;
     row[0] = head.nodes as u64;
@@ -114,7 +116,10 @@ pub extern "C" fn doeragyeol_check(
     depth: u16,
     sizes: &mut [u64],
 ) -> u32
-    ensures { λ r. ⌜ (r ≡ wordOf (checkSaid (lentNet (now (links .entry)) (now (parents .entry)) root depth) (now (sizes .entry)))) × (now (sizes .exit) ≡ sizesRow (lentNet (now (links .entry)) (now (parents .entry)) root depth) (now (sizes .entry))) ⌝ }
+    ensures { λ r.
+        let g = lentNet (now (links .entry)) (now (parents .entry)) root depth in
+        ⌜ (r ≡ wordOf (checkSaid g (now (sizes .entry))))
+        × (now (sizes .exit) ≡ sizesRow g (now (sizes .entry))) ⌝ }
 {
     if sizes.len() < SIZES {
         return no_room_word();
@@ -137,7 +142,10 @@ pub extern "C" fn doeragyeol_table(
     depth: u16,
     entries: &mut [u64],
 ) -> u32
-    ensures { λ r. ⌜ (r ≡ wordOf (tableVerdict (lentNet (now (links .entry)) (now (parents .entry)) root depth) (now (entries .entry)))) × (now (entries .exit) ≡ tableRow (lentNet (now (links .entry)) (now (parents .entry)) root depth) (now (entries .entry))) ⌝ }
+    ensures { λ r.
+        let g = lentNet (now (links .entry)) (now (parents .entry)) root depth in
+        ⌜ (r ≡ wordOf (tableVerdict g (now (entries .entry))))
+        × (now (entries .exit) ≡ tableRow g (now (entries .entry))) ⌝ }
 {
     word(table::table(links, parents, Search { root, depth }, entries))
 }
@@ -152,7 +160,11 @@ pub extern "C" fn doeragyeol_map(
     words: &mut [u64],
     told: &mut [u64],
 ) -> u32
-    ensures { λ r. ⌜ (r ≡ wordOf (mapSaid (lentNet (now (links .entry)) (now (parents .entry)) root depth) (now (words .entry)) (now (told .entry)))) × (now (words .exit) ≡ wordsRow (lentNet (now (links .entry)) (now (parents .entry)) root depth) (now (words .entry)) (now (told .entry))) × (now (told .exit) ≡ openRow (lentNet (now (links .entry)) (now (parents .entry)) root depth) (now (words .entry)) (now (told .entry))) ⌝ }
+    ensures { λ r.
+        let g = lentNet (now (links .entry)) (now (parents .entry)) root depth in
+        ⌜ (r ≡ wordOf (mapSaid g (now (words .entry)) (now (told .entry))))
+        × (now (words .exit) ≡ wordsRow g (now (words .entry)) (now (told .entry)))
+        × (now (told .exit) ≡ openRow g (now (words .entry)) (now (told .entry))) ⌝ }
 {
     if told.len() < TOLD {
         return no_room_word();
@@ -178,7 +190,12 @@ pub extern "C" fn doeragyeol_change(
     mark: u16,
     length: u16,
 ) -> u32
-    ensures { λ r. ⌜ (r ≡ wordOf (changeVerdict (lentNet (now (links .entry)) (now (parents .entry)) root depth) (now (entries .entry)) (record { link = link; mark = mark; length = length }))) × (now (links .exit) ≡ changed (now (parents .entry)) (record { root = root; depth = depth }) (record { link = link; mark = mark; length = length }) (record { links = now (links .entry); entries = now (entries .entry) }) .links) × (now (entries .exit) ≡ changed (now (parents .entry)) (record { root = root; depth = depth }) (record { link = link; mark = mark; length = length }) (record { links = now (links .entry); entries = now (entries .entry) }) .entries) ⌝ }
+    ensures { λ r.
+        let lent : Lent = record { links = now (links .entry); entries = now (entries .entry) } in
+        let g = lentNet (now (links .entry)) (now (parents .entry)) root depth in
+        ⌜ (r ≡ wordOf (changeVerdict g (now (entries .entry)) (record { link = link; mark = mark; length = length })))
+        × (now (links .exit) ≡ changed (now (parents .entry)) (record { root = root; depth = depth }) (record { link = link; mark = mark; length = length }) lent .links)
+        × (now (entries .exit) ≡ changed (now (parents .entry)) (record { root = root; depth = depth }) (record { link = link; mark = mark; length = length }) lent .entries) ⌝ }
 {
     let change = Change { link, mark, length };
     word(change::change(links, parents, Search { root, depth }, entries, change))
@@ -194,7 +211,11 @@ pub extern "C" fn doeragyeol_write(
     file: &mut [u8],
     size: &mut [u64],
 ) -> u32
-    ensures { λ r. ⌜ (r ≡ wordOf (writeSaid (lentNet (now (links .entry)) (now (parents .entry)) root depth) (now (file .entry)) (now (size .entry)))) × (now (file .exit) ≡ fileRow (lentNet (now (links .entry)) (now (parents .entry)) root depth) (now (file .entry)) (now (size .entry))) × (now (size .exit) ≡ lengthRow (lentNet (now (links .entry)) (now (parents .entry)) root depth) (now (file .entry)) (now (size .entry))) ⌝ }
+    ensures { λ r.
+        let g = lentNet (now (links .entry)) (now (parents .entry)) root depth in
+        ⌜ (r ≡ wordOf (writeSaid g (now (file .entry)) (now (size .entry))))
+        × (now (file .exit) ≡ fileRow g (now (file .entry)) (now (size .entry)))
+        × (now (size .exit) ≡ lengthRow g (now (file .entry)) (now (size .entry))) ⌝ }
 {
     if size.len() < SIZE {
         return no_room_word();
@@ -218,7 +239,13 @@ pub extern "C" fn doeragyeol_read(
     entries: &mut [u64],
     header: &mut [u64],
 ) -> u32
-    ensures { λ r. ⌜ (r ≡ wordOf (readSaid (now (file .entry)) (lentRows (now (links .entry)) (now (parents .entry)) (now (entries .entry))) (now (header .entry)))) × (now (links .exit) ≡ rowsLeft (now (file .entry)) (lentRows (now (links .entry)) (now (parents .entry)) (now (entries .entry))) (now (header .entry)) .links) × (now (parents .exit) ≡ rowsLeft (now (file .entry)) (lentRows (now (links .entry)) (now (parents .entry)) (now (entries .entry))) (now (header .entry)) .parents) × (now (entries .exit) ≡ rowsLeft (now (file .entry)) (lentRows (now (links .entry)) (now (parents .entry)) (now (entries .entry))) (now (header .entry)) .entries) × (now (header .exit) ≡ headerRow (now (file .entry)) (lentRows (now (links .entry)) (now (parents .entry)) (now (entries .entry))) (now (header .entry))) ⌝ }
+    ensures { λ r.
+        let rows = lentRows (now (links .entry)) (now (parents .entry)) (now (entries .entry)) in
+        ⌜ (r ≡ wordOf (readSaid (now (file .entry)) rows (now (header .entry))))
+        × (now (links .exit) ≡ rowsLeft (now (file .entry)) rows (now (header .entry)) .links)
+        × (now (parents .exit) ≡ rowsLeft (now (file .entry)) rows (now (header .entry)) .parents)
+        × (now (entries .exit) ≡ rowsLeft (now (file .entry)) rows (now (header .entry)) .entries)
+        × (now (header .exit) ≡ headerRow (now (file .entry)) rows (now (header .entry))) ⌝ }
 {
     if header.len() < HEADER {
         return no_room_word();

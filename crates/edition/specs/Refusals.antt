@@ -1,7 +1,8 @@
 -- The refusal numbers of document 01, in one table. Assumes nothing.
 use Prim.Native.Nat.{ℕ}
 use Rattle.edition.specs.declared.Why.{Why}
-use Rattle.edition.specs.declared.Why.the-variants.{NodeCount, LinkCount, BadRoot, BadDepth, BadEnds, BadMark, BadParent, NoRoute, NotShort, NoRoom, LinkMissing, TreeLink, BreaksShort, BadLength, BadCheck, BadBlock, BadEntry}
+use Rattle.edition.specs.declared.Why.the-variants.{NodeCount, LinkCount, BadRoot, BadDepth, BadEnds, BadMark, BadParent, NoRoute, NotShort}
+use Rattle.edition.specs.declared.Why.the-variants.{NoRoom, LinkMissing, TreeLink, BreaksShort, BadLength, BadCheck, BadBlock, BadEntry}
 use Rattle.edition.specs.declared.Verdict.{Verdict}
 use Rattle.edition.specs.declared.Verdict.the-variants.{Taken, Refused}
 

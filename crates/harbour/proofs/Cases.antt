@@ -4,7 +4,8 @@ use mathlib.Core.Bool.{true}
 use mathlib.Core.List.{List, [], _∷_}
 use Rattle.rows.proofs.Tests.{and-left, and-right}
 use Rattle.rows.proofs.Listed.{same-equal}
-use Rattle.harbour.specs.Harbour.{Case, _gives_, links, parents, at, harbour, alone, rootEntry, bridge, one, two, three, right, wrong, nine, linksSeven, linksNine, twoSeven, oneNine, twoNine, said, room, after, answer, cases, holds}
+use Rattle.harbour.specs.Harbour.{Case, _gives_, links, parents, at, harbour, alone, rootEntry, bridge, one, two, three, right, wrong, nine}
+use Rattle.harbour.specs.Harbour.{linksSeven, linksNine, twoSeven, oneNine, twoNine, said, room, after, answer, cases, holds}
 use Rattle.edition.specs.Refusals.{numberOf}
 use Rattle.rows.specs.Count.{sumTo, maxTo, someTo, rowsTo, onlyIf, rowWith}
 use Rattle.rows.specs.First.{beats, bestTo, firstTo, foundOr, refusedAt, refuseAt, refuseIf, firstly}

@@ -16,7 +16,8 @@ const BYTE: u8 = 165;
 
 // Fills a row of links or parents.
 pub fn fill(row: &mut [u16])
-    ensures { λ _. ⌜ now (row .exit) ≡ rowWith (λ i. fillMark) (length (now (row .entry))) (now (row .entry)) ⌝ }
+    ensures { λ _.
+        ⌜ now (row .exit) ≡ rowWith (λ i. fillMark) (length (now (row .entry))) (now (row .entry)) ⌝ }
 {
     let mut i = 0;
     while i < row.len() {
@@ -27,7 +28,8 @@ pub fn fill(row: &mut [u16])
 
 // Fills a row of entries or words.
 pub fn fill_wide(row: &mut [u64])
-    ensures { λ _. ⌜ now (row .exit) ≡ rowWith (λ i. fillMark) (length (now (row .entry))) (now (row .entry)) ⌝ }
+    ensures { λ _.
+        ⌜ now (row .exit) ≡ rowWith (λ i. fillMark) (length (now (row .entry))) (now (row .entry)) ⌝ }
 {
     let mut i = 0;
     while i < row.len() {
@@ -38,7 +40,8 @@ pub fn fill_wide(row: &mut [u64])
 
 // Fills a row of nodes.
 pub fn fill_nodes(row: &mut [usize])
-    ensures { λ _. ⌜ now (row .exit) ≡ rowWith (λ i. fillMark) (length (now (row .entry))) (now (row .entry)) ⌝ }
+    ensures { λ _.
+        ⌜ now (row .exit) ≡ rowWith (λ i. fillMark) (length (now (row .entry))) (now (row .entry)) ⌝ }
 {
     let mut i = 0;
     while i < row.len() {
@@ -49,7 +52,8 @@ pub fn fill_nodes(row: &mut [usize])
 
 // Fills a row of bytes.
 pub fn fill_bytes(row: &mut [u8])
-    ensures { λ _. ⌜ now (row .exit) ≡ rowWith (λ i. byteMark) (length (now (row .entry))) (now (row .entry)) ⌝ }
+    ensures { λ _.
+        ⌜ now (row .exit) ≡ rowWith (λ i. byteMark) (length (now (row .entry))) (now (row .entry)) ⌝ }
 {
     let mut i = 0;
     while i < row.len() {

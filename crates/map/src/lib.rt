@@ -116,7 +116,9 @@ fn lowest_of(words: &[u64]) -> u16
 
 // The map of a table of n nodes, or 10 where fewer words are lent than the map has.
 fn map_of(entries: &[u64], n: usize, words: &mut [u64]) -> MapAnswer
-    ensures { λ r. ⌜ (r ≡ toldBy (openBy (now (entries .entry)) n) (now (words .entry))) × (now (words .exit) ≡ leftBy (openBy (now (entries .entry)) n) (now (words .entry))) ⌝ }
+    ensures { λ r.
+        ⌜ (r ≡ toldBy (openBy (now (entries .entry)) n) (now (words .entry)))
+        × (now (words .exit) ≡ leftBy (openBy (now (entries .entry)) n) (now (words .entry))) ⌝ }
 {
     if words.len() < Memory::WORDS {
         return MapAnswer::Not(Refusal {
@@ -139,7 +141,10 @@ pub fn unprotected_map(
     search: Search,
     words: &mut [u64],
 ) -> MapAnswer
-    ensures { λ r. ⌜ (r ≡ mapAnswer (netOf (now (links .entry)) (now (parents .entry)) search) (now (words .entry))) × (now (words .exit) ≡ mapRow (netOf (now (links .entry)) (now (parents .entry)) search) (now (words .entry))) ⌝ }
+    ensures { λ r.
+        let g = netOf (now (links .entry)) (now (parents .entry)) search in
+        ⌜ (r ≡ mapAnswer g (now (words .entry)))
+        × (now (words .exit) ≡ mapRow g (now (words .entry))) ⌝ }
 {
     let mut entries = [0u64; Memory::ENTRY_ROW];
     let said = table::table(links, parents, search, &mut entries);

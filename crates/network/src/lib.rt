@@ -105,7 +105,8 @@ pub fn parent_of(parents: &[u16], u: usize) -> u16
 
 // Whether link e is some node's parent link; so is 65,535, which the root names.
 pub fn is_parent(parents: &[u16], e: usize) -> bool
-    ensures { λ r. ⌜ r ≡ isParent (λ u. getD (now (parents .entry)) u noLink) (length (now (parents .entry))) e ⌝ }
+    ensures { λ r.
+        ⌜ r ≡ isParent (λ u. getD (now (parents .entry)) u noLink) (length (now (parents .entry))) e ⌝ }
 {
     let mut u = 0;
     while u < parents.len() {
@@ -236,7 +237,8 @@ pub fn bad_mark(mark: u16) -> bool
 
 // The lowest link with bad ends.
 fn first_bad_ends(links: &[u16], n: usize) -> Found
-    ensures { λ r. ⌜ r ≡ firstTo (λ e. badEnds n (linkIn (now (links .entry)) e)) (linksIn (now (links .entry))) ⌝ }
+    ensures { λ r.
+        ⌜ r ≡ firstTo (λ e. badEnds n (linkIn (now (links .entry)) e)) (linksIn (now (links .entry))) ⌝ }
 {
     let mut found = Found::Nothing;
     let mut e = 0;
@@ -249,7 +251,8 @@ fn first_bad_ends(links: &[u16], n: usize) -> Found
 
 // The lowest link with a bad service mark.
 fn first_bad_mark(links: &[u16]) -> Found
-    ensures { λ r. ⌜ r ≡ firstTo (λ e. badMark (linkIn (now (links .entry)) e .mark)) (linksIn (now (links .entry))) ⌝ }
+    ensures { λ r.
+        ⌜ r ≡ firstTo (λ e. badMark (linkIn (now (links .entry)) e .mark)) (linksIn (now (links .entry))) ⌝ }
 {
     let mut found = Found::Nothing;
     let mut e = 0;
@@ -263,14 +266,16 @@ fn first_bad_mark(links: &[u16]) -> Found
 
 // Refusal 5, of a row of links among n nodes.
 pub fn check_ends(links: &[u16], n: usize) -> Verdict
-    ensures { λ r. ⌜ r ≡ refuseAt (λ e. badEnds n (linkIn (now (links .entry)) e)) (linksIn (now (links .entry))) BadEnds ⌝ }
+    ensures { λ r.
+        ⌜ r ≡ refuseAt (λ e. badEnds n (linkIn (now (links .entry)) e)) (linksIn (now (links .entry))) BadEnds ⌝ }
 {
     rows::refused_at(Why::BadEnds, first_bad_ends(links, n))
 }
 
 // Refusal 6, of a row of links.
 pub fn check_marks(links: &[u16]) -> Verdict
-    ensures { λ r. ⌜ r ≡ refuseAt (λ e. badMark (linkIn (now (links .entry)) e .mark)) (linksIn (now (links .entry))) BadMark ⌝ }
+    ensures { λ r.
+        ⌜ r ≡ refuseAt (λ e. badMark (linkIn (now (links .entry)) e .mark)) (linksIn (now (links .entry))) BadMark ⌝ }
 {
     rows::refused_at(Why::BadMark, first_bad_mark(links))
 }
@@ -303,7 +308,9 @@ fn bad_parent(links: &[u16], parents: &[u16], search: Search, u: usize) -> bool
 
 // The lowest node with a bad parent link.
 fn first_bad_parent(links: &[u16], parents: &[u16], search: Search) -> Found
-    ensures { λ r. ⌜ r ≡ firstTo (badParent (netOf (now (links .entry)) (now (parents .entry)) search)) (length (now (parents .entry))) ⌝ }
+    ensures { λ r.
+        let g = netOf (now (links .entry)) (now (parents .entry)) search in
+        ⌜ r ≡ firstTo (badParent g) (length (now (parents .entry))) ⌝ }
 {
     let mut found = Found::Nothing;
     let mut u = 0;
@@ -316,7 +323,9 @@ fn first_bad_parent(links: &[u16], parents: &[u16], search: Search) -> Found
 
 // Refusal 7, of the row of parent links.
 pub fn check_parents(links: &[u16], parents: &[u16], search: Search) -> Verdict
-    ensures { λ r. ⌜ r ≡ refuseAt (badParent (netOf (now (links .entry)) (now (parents .entry)) search)) (length (now (parents .entry))) BadParent ⌝ }
+    ensures { λ r.
+        let g = netOf (now (links .entry)) (now (parents .entry)) search in
+        ⌜ r ≡ refuseAt (badParent g) (length (now (parents .entry))) BadParent ⌝ }
 {
     rows::refused_at(Why::BadParent, first_bad_parent(links, parents, search))
 }

@@ -35,7 +35,8 @@ fn room_for(out: &[u8], at: usize, n: usize) -> usize
 // Copies the text into the buffer from place at on.
 fn copy(out: &mut [u8], at: usize, text: &[u8])
     requires { ⌜ at + length (now text) ≤ length (now out) ⌝ }
-    ensures { λ _. ⌜ now (out .exit) ≡ paste (now (out .entry)) at (now (text .entry)) (length (now (text .entry))) ⌝ }
+    ensures { λ _.
+        ⌜ now (out .exit) ≡ paste (now (out .entry)) at (now (text .entry)) (length (now (text .entry))) ⌝ }
 {
     let mut i = 0;
     while i < text.len() {

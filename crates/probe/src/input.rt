@@ -136,7 +136,9 @@ fn read_words(raw: &mut [u8], row: &mut [u16], n: usize) -> bool
 // Reads what follows the head: the parents, then the link numbers or the bytes. False where the input ends first.
 // What lies behind them in the two rows stays.
 pub fn read_rows(head: Head, links: &mut [u16], parents: &mut [u16], bytes: &mut [u8]) -> bool
-    ensures { λ r. ⌜ (drop (head .parents) (now (parents .exit)) ≡ drop (head .parents) (now (parents .entry))) × (drop (head .rest) (now (links .exit)) ≡ drop (head .rest) (now (links .entry))) ⌝ }
+    ensures { λ r.
+        ⌜ (drop (head .parents) (now (parents .exit)) ≡ drop (head .parents) (now (parents .entry)))
+        × (drop (head .rest) (now (links .exit)) ≡ drop (head .rest) (now (links .entry))) ⌝ }
 {
     if !read_words(bytes, parents, head.parents) {
         return false;

@@ -16,7 +16,8 @@ use network::Link;
 // Puts four numbers of two bytes each.
 fn put_four(bytes: &mut [u8], at: usize, a: u64, b: u64, c: u64, d: u64)
     requires { ⌜ at + 8 ≤ length (now bytes) ⌝ }
-    ensures { λ _. ⌜ now (bytes .exit) ≡ sets (now (bytes .entry)) at (bytesOf 2 a ++ bytesOf 2 b ++ bytesOf 2 c ++ bytesOf 2 d) ⌝ }
+    ensures { λ _.
+        ⌜ now (bytes .exit) ≡ sets (now (bytes .entry)) at (bytesOf 2 a ++ bytesOf 2 b ++ bytesOf 2 c ++ bytesOf 2 d) ⌝ }
 {
     numbers::put_number(bytes, at, 2, a);
     numbers::put_number(bytes, at + 2, 2, b);
@@ -27,7 +28,8 @@ fn put_four(bytes: &mut [u8], at: usize, a: u64, b: u64, c: u64, d: u64)
 // Puts a number of two bytes and two of one byte.
 fn put_front(bytes: &mut [u8], at: usize, a: u64, b: u64, c: u64)
     requires { ⌜ at + 4 ≤ length (now bytes) ⌝ }
-    ensures { λ _. ⌜ now (bytes .exit) ≡ sets (now (bytes .entry)) at (bytesOf 2 a ++ bytesOf 1 b ++ bytesOf 1 c) ⌝ }
+    ensures { λ _.
+        ⌜ now (bytes .exit) ≡ sets (now (bytes .entry)) at (bytesOf 2 a ++ bytesOf 1 b ++ bytesOf 1 c) ⌝ }
 {
     numbers::put_number(bytes, at, 2, a);
     numbers::put_number(bytes, at + 2, 1, b);
@@ -37,7 +39,8 @@ fn put_front(bytes: &mut [u8], at: usize, a: u64, b: u64, c: u64)
 // Puts a number of eight bytes and two of four.
 fn put_costs(bytes: &mut [u8], at: usize, a: u64, b: u64, c: u64)
     requires { ⌜ at + 16 ≤ length (now bytes) ⌝ }
-    ensures { λ _. ⌜ now (bytes .exit) ≡ sets (now (bytes .entry)) at (bytesOf 8 a ++ bytesOf 4 b ++ bytesOf 4 c) ⌝ }
+    ensures { λ _.
+        ⌜ now (bytes .exit) ≡ sets (now (bytes .entry)) at (bytesOf 8 a ++ bytesOf 4 b ++ bytesOf 4 c) ⌝ }
 {
     numbers::put_number(bytes, at, 8, a);
     numbers::put_number(bytes, at + 8, 4, b);
@@ -56,7 +59,8 @@ fn has_room(bytes: &[u8], at: usize, size: usize) -> bool
 
 // Puts the header's record from a place on. Where it does not fit nothing is written; the same holds for the others.
 pub fn put_header(bytes: &mut [u8], at: usize, n: u16, m: u16, search: Search)
-    ensures { λ _. ⌜ now (bytes .exit) ≡ recordPut at headerBytes (headerRecord n m search) (now (bytes .entry)) ⌝ }
+    ensures { λ _.
+        ⌜ now (bytes .exit) ≡ recordPut at headerBytes (headerRecord n m search) (now (bytes .entry)) ⌝ }
 {
     if !has_room(bytes, at, Edition::HEADER_BYTES) {
         return;
@@ -90,7 +94,8 @@ pub fn put_link(bytes: &mut [u8], at: usize, l: Link)
 
 // Puts the record of an entry, with the node's parent link.
 pub fn put_entry(bytes: &mut [u8], at: usize, parent: u16, entry: Entry)
-    ensures { λ _. ⌜ now (bytes .exit) ≡ recordPut at entryBytes (entryRecord parent entry) (now (bytes .entry)) ⌝ }
+    ensures { λ _.
+        ⌜ now (bytes .exit) ≡ recordPut at entryBytes (entryRecord parent entry) (now (bytes .entry)) ⌝ }
 {
     if !has_room(bytes, at, Edition::ENTRY_BYTES) {
         return;

@@ -8,7 +8,8 @@ use native.Mathlib.Numerals.{add-one}
 use native.Mathlib.Omega.{arith}
 use lib.Dec.{ltb}
 use lib.ListN.{length, getD, set, take, drop, length-set, length-drop, length-append, take-append-drop}
-use lib.Seq.{sets, length-sets, length-take-le, getD-set-same, getD-set-other, set-comm, getD-take, getD-drop, ext-getD, take-add, take-all, take-at, drop-at, drop-drop, sets-eq}
+use lib.Seq.{sets, length-sets, length-take-le, getD-set-same, getD-set-other, set-comm, getD-take, getD-drop, ext-getD, take-add, take-all, take-at}
+use lib.Seq.{drop-at, drop-drop, sets-eq}
 use borrow.Author.Tests.{ltb-true, ltb-false, lt-ltb, le-ltb}
 use Rattle.rows.specs.Count.{rowsTo}
 use Rattle.rows.specs.Records.{recordsIn, recordIn, withRecord, firstRecords, pastRecords}

@@ -31,7 +31,9 @@ pub enum Checked {
 
 // The lowest node without a route to the root.
 fn first_lost(links: &[u16], parents: &[u16], search: Search) -> Found
-    ensures { λ r. ⌜ r ≡ firstTo (noRoute (netOf (now (links .entry)) (now (parents .entry)) search)) (length (now (parents .entry))) ⌝ }
+    ensures { λ r.
+        let g = netOf (now (links .entry)) (now (parents .entry)) search in
+        ⌜ r ≡ firstTo (noRoute g) (length (now (parents .entry))) ⌝ }
 {
     let mut found = Found::Nothing;
     let mut u = 0;
@@ -44,7 +46,9 @@ fn first_lost(links: &[u16], parents: &[u16], search: Search) -> Found
 
 // Refusal 8: a node has no route to the root.
 pub fn check_routes(links: &[u16], parents: &[u16], search: Search) -> Verdict
-    ensures { λ r. ⌜ r ≡ refuseAt (noRoute (netOf (now (links .entry)) (now (parents .entry)) search)) (length (now (parents .entry))) NoRoute ⌝ }
+    ensures { λ r.
+        let g = netOf (now (links .entry)) (now (parents .entry)) search in
+        ⌜ r ≡ refuseAt (noRoute g) (length (now (parents .entry))) NoRoute ⌝ }
 {
     rows::refused_at(Why::NoRoute, first_lost(links, parents, search))
 }
@@ -73,7 +77,8 @@ fn breaks_by(row: &[u64], l: Link) -> bool
 
 // The lowest link that breaks shortness, by a row of distances.
 fn first_breaking(links: &[u16], row: &[u64]) -> Found
-    ensures { λ r. ⌜ r ≡ firstTo (λ e. breaksBy (now (row .entry)) (linkIn (now (links .entry)) e)) (linksIn (now (links .entry))) ⌝ }
+    ensures { λ r.
+        ⌜ r ≡ firstTo (λ e. breaksBy (now (row .entry)) (linkIn (now (links .entry)) e)) (linksIn (now (links .entry))) ⌝ }
 {
     let m = network::links_in(links);
     let mut found = Found::Nothing;
@@ -87,8 +92,11 @@ fn first_breaking(links: &[u16], row: &[u64]) -> Found
 
 // Refusal 9, of a network whose ends are nodes: a link in service breaks shortness.
 fn check_short(links: &[u16], parents: &[u16], search: Search) -> Verdict
-    requires { ⌜ (badNodes memoryLimits (length (now parents)) ≡ false) × EndsIn (now links) (length (now parents)) ⌝ }
-    ensures { λ r. ⌜ r ≡ refuseAt (notShort (netOf (now (links .entry)) (now (parents .entry)) search)) (linksIn (now (links .entry))) NotShort ⌝ }
+    requires { ⌜ (badNodes memoryLimits (length (now parents)) ≡ false)
+        × EndsIn (now links) (length (now parents)) ⌝ }
+    ensures { λ r.
+        let g = netOf (now (links .entry)) (now (parents .entry)) search in
+        ⌜ r ≡ refuseAt (notShort g) (linksIn (now (links .entry))) NotShort ⌝ }
 {
     let mut row = [0u64; Memory::NODES];
     tree::distances(links, parents, search, &mut row);

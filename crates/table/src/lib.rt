@@ -13,7 +13,8 @@ ghost use Rattle.tree.specs.Tree.{treeOf, dist};
 ghost use Rattle.sound.specs.Sound.{netVerdict};
 ghost use Rattle.swap.specs.Entry.{entry};
 ghost use Rattle.swap.specs.Fold.{count as countOf, weight as weightOf, stem, base as baseOf, turn as turnOf, deepest};
-ghost use Rattle.table.specs.Work.{Holds, FoldedAt, Foldable, Added, Counted, placed, Raised, Passed, Asides, Carries, Crossing, Priced, Ready, OfferedAt, withinBy, Spare, Starting, Linked, LinkedTo, Entries, startAt};
+ghost use Rattle.table.specs.Work.{Holds, FoldedAt, Foldable, Added, Counted, placed, Raised, Passed, Asides, Carries, Crossing, Priced, Ready};
+ghost use Rattle.table.specs.Work.{OfferedAt, withinBy, Spare, Starting, Linked, LinkedTo, Entries, startAt};
 ghost use Rattle.table.specs.Table.{marked, freshAt, tableVerdict, freshRow, tableRow, entryVerdict, entryAnswer};
 use edition::Edition;
 use edition::Entry;
@@ -48,8 +49,13 @@ fn larger(a: u64, b: u64) -> u64
 
 // Node c counts one more, weighs v more and is at least as deep as v.
 fn fold_at(count: &mut [u64], weight: &mut [u64], deep: &mut [u64], c: usize, v: u64)
-    requires { ⌜ (c < length (now count)) × (c < length (now weight)) × (c < length (now deep)) × (getD (now count) c 0 + 1 < 2 ^ 64) × (getD (now weight) c 0 + v < 2 ^ 64) ⌝ }
-    ensures { λ _. ⌜ FoldedAt c v (now (count .entry)) (now (weight .entry)) (now (deep .entry)) (now (count .exit)) (now (weight .exit)) (now (deep .exit)) ⌝ }
+    requires { ⌜ (c < length (now count))
+        × (c < length (now weight))
+        × (c < length (now deep))
+        × (getD (now count) c 0 + 1 < 2 ^ 64)
+        × (getD (now weight) c 0 + v < 2 ^ 64) ⌝ }
+    ensures { λ _.
+        ⌜ FoldedAt c v (now (count .entry)) (now (weight .entry)) (now (deep .entry)) (now (count .exit)) (now (weight .exit)) (now (deep .exit)) ⌝ }
 {
     count[c] = count[c] + 1;
     weight[c] = weight[c] + v;
@@ -67,8 +73,12 @@ fn fold_up(
     u: usize,
     v: u64,
 )
-    requires { ⌜ (netVerdict (netOf (now links) (now parents) search) ≡ Taken) × Foldable (length (now parents)) u v (now count) (now weight) (now deep) ⌝ }
-    ensures { λ _. ⌜ Added (treeOf (netOf (now (links .entry)) (now (parents .entry)) search)) u v (now (count .entry)) (now (weight .entry)) (now (deep .entry)) (now (count .exit)) (now (weight .exit)) (now (deep .exit)) ⌝ }
+    requires { let g = netOf (now links) (now parents) search in
+        ⌜ (netVerdict g ≡ Taken)
+        × Foldable (length (now parents)) u v (now count) (now weight) (now deep) ⌝ }
+    ensures { λ _.
+        let g = netOf (now (links .entry)) (now (parents .entry)) search in
+        ⌜ Added (treeOf g) u v (now (count .entry)) (now (weight .entry)) (now (deep .entry)) (now (count .exit)) (now (weight .exit)) (now (deep .exit)) ⌝ }
 {
     let mut c = u;
     while c != search.root as usize {
@@ -88,8 +98,14 @@ fn fold_all(
     weight: &mut [u64],
     deep: &mut [u64],
 )
-    requires { ⌜ (netVerdict (netOf (now links) (now parents) search) ≡ Taken) × Holds (length (now parents)) (dist (treeOf (netOf (now links) (now parents) search))) (now near) × Counted (treeOf (netOf (now links) (now parents) search)) 0 (now count) (now weight) (now deep) ⌝ }
-    ensures { λ _. ⌜ Counted (treeOf (netOf (now (links .entry)) (now (parents .entry)) search)) (length (now (parents .entry))) (now (count .exit)) (now (weight .exit)) (now (deep .exit)) ⌝ }
+    requires { let g = netOf (now links) (now parents) search in
+        let t = treeOf g in
+        ⌜ (netVerdict g ≡ Taken)
+        × Holds (length (now parents)) (dist t) (now near)
+        × Counted t 0 (now count) (now weight) (now deep) ⌝ }
+    ensures { λ _.
+        let g = netOf (now (links .entry)) (now (parents .entry)) search in
+        ⌜ Counted (treeOf g) (length (now (parents .entry))) (now (count .exit)) (now (weight .exit)) (now (deep .exit)) ⌝ }
 {
     let mut u = 0;
     while u < parents.len() {
@@ -115,7 +131,13 @@ fn stem_of(
     count: &[u64],
     x: usize,
 ) -> u64
-    requires { ⌜ (netVerdict (netOf (now links) (now parents) search) ≡ Taken) × Holds (length (now parents)) (dist (treeOf (netOf (now links) (now parents) search))) (now near) × Holds (length (now parents)) (countOf (treeOf (netOf (now links) (now parents) search))) (now count) × (x < length (now parents)) ⌝ }
+    requires { let g = netOf (now links) (now parents) search in
+        let t = treeOf g in
+        let n = length (now parents) in
+        ⌜ (netVerdict g ≡ Taken)
+        × Holds n (dist t) (now near)
+        × Holds n (countOf t) (now count)
+        × (x < n) ⌝ }
     ensures { λ r. ⌜ r ≡ stem (treeOf (netOf (now (links .entry)) (now (parents .entry)) search)) x ⌝ }
 {
     let mut c = x;
@@ -140,8 +162,21 @@ fn fill_bases(
     base: &mut [u64],
     turn: &mut [u64],
 )
-    requires { ⌜ (netVerdict (netOf (now links) (now parents) search) ≡ Taken) × Holds (length (now parents)) (dist (treeOf (netOf (now links) (now parents) search))) (now near) × Holds (length (now parents)) (countOf (treeOf (netOf (now links) (now parents) search))) (now count) × Holds (length (now parents)) (weightOf (treeOf (netOf (now links) (now parents) search))) (now weight) × (length (now parents) ≤ length (now base)) × (length (now parents) ≤ length (now turn)) ⌝ }
-    ensures { λ _. ⌜ (now (base .exit) ≡ rowWith (baseOf (treeOf (netOf (now (links .entry)) (now (parents .entry)) search))) (length (now (parents .entry))) (now (base .entry))) × (now (turn .exit) ≡ rowWith (turnOf (treeOf (netOf (now (links .entry)) (now (parents .entry)) search))) (length (now (parents .entry))) (now (turn .entry))) ⌝ }
+    requires { let g = netOf (now links) (now parents) search in
+        let t = treeOf g in
+        let n = length (now parents) in
+        ⌜ (netVerdict g ≡ Taken)
+        × Holds n (dist t) (now near)
+        × Holds n (countOf t) (now count)
+        × Holds n (weightOf t) (now weight)
+        × (n ≤ length (now base))
+        × (n ≤ length (now turn)) ⌝ }
+    ensures { λ _.
+        let g = netOf (now (links .entry)) (now (parents .entry)) search in
+        let t = treeOf g in
+        let n = length (now (parents .entry)) in
+        ⌜ (now (base .exit) ≡ rowWith (baseOf t) n (now (base .entry)))
+        × (now (turn .exit) ≡ rowWith (turnOf t) n (now (turn .entry))) ⌝ }
 {
     let mut x = 0;
     while x < parents.len() {
@@ -174,8 +209,16 @@ fn raise_at(
     out: &mut [u64],
     c: usize,
 )
-    requires { ⌜ (netVerdict (netOf (now links) (now parents) search) ≡ Taken) × Holds (length (now parents)) (deepest (treeOf (netOf (now links) (now parents) search))) (now deep) × (length (now parents) ≤ length (now most)) × (length (now parents) ≤ length (now out)) × (c < length (now parents)) ⌝ }
-    ensures { λ _. ⌜ Raised (treeOf (netOf (now (links .entry)) (now (parents .entry)) search)) (length (now (parents .entry))) c (now (most .entry)) (now (out .entry)) (now (most .exit)) (now (out .exit)) ⌝ }
+    requires { let g = netOf (now links) (now parents) search in
+        let n = length (now parents) in
+        ⌜ (netVerdict g ≡ Taken)
+        × Holds n (deepest (treeOf g)) (now deep)
+        × (n ≤ length (now most))
+        × (n ≤ length (now out))
+        × (c < n) ⌝ }
+    ensures { λ _.
+        let g = netOf (now (links .entry)) (now (parents .entry)) search in
+        ⌜ Raised (treeOf g) (length (now (parents .entry))) c (now (most .entry)) (now (out .entry)) (now (most .exit)) (now (out .exit)) ⌝ }
 {
     if c == search.root as usize {
         return;
@@ -195,8 +238,15 @@ fn pass(
     most: &mut [u64],
     out: &mut [u64],
 )
-    requires { ⌜ (netVerdict (netOf (now links) (now parents) search) ≡ Taken) × Holds (length (now parents)) (deepest (treeOf (netOf (now links) (now parents) search))) (now deep) × (length (now parents) ≤ length (now most)) × (length (now parents) ≤ length (now out)) ⌝ }
-    ensures { λ _. ⌜ Passed (treeOf (netOf (now (links .entry)) (now (parents .entry)) search)) back (length (now (parents .entry))) (now (most .entry)) (now (out .entry)) (now (out .exit)) ⌝ }
+    requires { let g = netOf (now links) (now parents) search in
+        let n = length (now parents) in
+        ⌜ (netVerdict g ≡ Taken)
+        × Holds n (deepest (treeOf g)) (now deep)
+        × (n ≤ length (now most))
+        × (n ≤ length (now out)) ⌝ }
+    ensures { λ _.
+        let g = netOf (now (links .entry)) (now (parents .entry)) search in
+        ⌜ Passed (treeOf g) back (length (now (parents .entry))) (now (most .entry)) (now (out .entry)) (now (out .exit)) ⌝ }
 {
     let mut j = 0;
     while j < parents.len() {
@@ -208,8 +258,14 @@ fn pass(
 
 // What is beside every node but the root, by a pass from either side. The row begins with zeros.
 fn fill_asides(links: &[u16], parents: &[u16], search: Search, deep: &[u64], out: &mut [u64])
-    requires { ⌜ (netVerdict (netOf (now links) (now parents) search) ≡ Taken) × Holds (length (now parents)) (deepest (treeOf (netOf (now links) (now parents) search))) (now deep) × Holds (length (now parents)) (λ x. 0) (now out) ⌝ }
-    ensures { λ _. ⌜ Asides (treeOf (netOf (now (links .entry)) (now (parents .entry)) search)) (length (now (parents .entry))) (now (out .exit)) ⌝ }
+    requires { let g = netOf (now links) (now parents) search in
+        let n = length (now parents) in
+        ⌜ (netVerdict g ≡ Taken)
+        × Holds n (deepest (treeOf g)) (now deep)
+        × Holds n (λ x. 0) (now out) ⌝ }
+    ensures { λ _.
+        let g = netOf (now (links .entry)) (now (parents .entry)) search in
+        ⌜ Asides (treeOf g) (length (now (parents .entry))) (now (out .exit)) ⌝ }
 {
     let mut first = [0u64; Memory::NODES];
     tree::distances(links, parents, search, &mut first);
@@ -227,8 +283,17 @@ fn begin_side(
     deep: &[u64],
     z: usize,
 ) -> Side
-    requires { ⌜ (netVerdict (netOf (now links) (now parents) search) ≡ Taken) × Holds (length (now parents)) (dist (treeOf (netOf (now links) (now parents) search))) (now near) × Holds (length (now parents)) (deepest (treeOf (netOf (now links) (now parents) search))) (now deep) × (z < length (now parents)) ⌝ }
-    ensures { λ r. ⌜ Carries (treeOf (netOf (now (links .entry)) (now (parents .entry)) search)) z r × (r .climb .node ≡ z) ⌝ }
+    requires { let g = netOf (now links) (now parents) search in
+        let t = treeOf g in
+        let n = length (now parents) in
+        ⌜ (netVerdict g ≡ Taken)
+        × Holds n (dist t) (now near)
+        × Holds n (deepest t) (now deep)
+        × (z < n) ⌝ }
+    ensures { λ r.
+        let g = netOf (now (links .entry)) (now (parents .entry)) search in
+        ⌜ Carries (treeOf g) z r
+        × (r .climb .node ≡ z) ⌝ }
 {
     Side {
         climb: Climb::begin(z),
@@ -246,8 +311,20 @@ fn step_side(
     near: &[u64],
     asides: &[u64],
 ) -> Side
-    requires { ⌜ (netVerdict (netOf (now links) (now parents) search) ≡ Taken) × Holds (length (now parents)) (dist (treeOf (netOf (now links) (now parents) search))) (now near) × Asides (treeOf (netOf (now links) (now parents) search)) (length (now parents)) (now asides) × Carries (treeOf (netOf (now links) (now parents) search)) (side .from) side × (side .from < length (now parents)) × (side .climb .node ≡ search .root → ⊥) ⌝ }
-    ensures { λ r. ⌜ Carries (treeOf (netOf (now (links .entry)) (now (parents .entry)) search)) (side .from) r × (r .climb .node ≡ treeOf (netOf (now (links .entry)) (now (parents .entry)) search) .up (side .climb .node)) × (r .from ≡ side .from) ⌝ }
+    requires { let g = netOf (now links) (now parents) search in
+        let t = treeOf g in
+        let n = length (now parents) in
+        ⌜ (netVerdict g ≡ Taken)
+        × Holds n (dist t) (now near)
+        × Asides t n (now asides)
+        × Carries t (side .from) side
+        × (side .from < n)
+        × (side .climb .node ≡ search .root → ⊥) ⌝ }
+    ensures { λ r.
+        let g = netOf (now (links .entry)) (now (parents .entry)) search in
+        ⌜ Carries (treeOf g) (side .from) r
+        × (r .climb .node ≡ treeOf g .up (side .climb .node))
+        × (r .from ≡ side .from) ⌝ }
 {
     let old = side.climb;
     let climb = old.step(links, parents, search);
@@ -277,8 +354,17 @@ fn costs_of(
     e: usize,
     k: u64,
 ) -> Costs
-    requires { ⌜ (netVerdict (netOf (now links) (now parents) search) ≡ Taken) × Ready (treeOf (netOf (now links) (now parents) search)) (length (now parents)) (now near) (now count) (now bases) (now turns) × Carries (treeOf (netOf (now links) (now parents) search)) (side .from) side × (side .from < length (now parents)) × Crossing (netOf (now links) (now parents) search) e side k ⌝ }
-    ensures { λ r. ⌜ Priced (netOf (now (links .entry)) (now (parents .entry)) search) (side .climb .node) e r ⌝ }
+    requires { let g = netOf (now links) (now parents) search in
+        let t = treeOf g in
+        let n = length (now parents) in
+        ⌜ (netVerdict g ≡ Taken)
+        × Ready t n (now near) (now count) (now bases) (now turns)
+        × Carries t (side .from) side
+        × (side .from < n)
+        × Crossing g e side k ⌝ }
+    ensures { λ r.
+        let g = netOf (now (links .entry)) (now (parents .entry)) search in
+        ⌜ Priced g (side .climb .node) e r ⌝ }
 {
     let climb = side.climb;
     let x = climb.node;
@@ -318,8 +404,19 @@ fn offer_at(
     e: usize,
     k: u64,
 )
-    requires { ⌜ (netVerdict (netOf (now links) (now parents) search) ≡ Taken) × Ready (treeOf (netOf (now links) (now parents) search)) (length (now parents)) (now near) (now count) (now bases) (now turns) × Carries (treeOf (netOf (now links) (now parents) search)) (side .from) side × (side .from < length (now parents)) × Crossing (netOf (now links) (now parents) search) e side k × (side .climb .node ≡ search .root → ⊥) × (length (now parents) ≤ entriesIn (now entries)) ⌝ }
-    ensures { λ _. ⌜ OfferedAt (netOf (now (links .entry)) (now (parents .entry)) search) (length (now (parents .entry))) (now (marks .entry)) e (side .climb .node) (now (entries .entry)) (now (entries .exit)) ⌝ }
+    requires { let g = netOf (now links) (now parents) search in
+        let t = treeOf g in
+        let n = length (now parents) in
+        ⌜ (netVerdict g ≡ Taken)
+        × Ready t n (now near) (now count) (now bases) (now turns)
+        × Carries t (side .from) side
+        × (side .from < n)
+        × Crossing g e side k
+        × (side .climb .node ≡ search .root → ⊥)
+        × (n ≤ entriesIn (now entries)) ⌝ }
+    ensures { λ _.
+        let g = netOf (now (links .entry)) (now (parents .entry)) search in
+        ⌜ OfferedAt g (length (now (parents .entry))) (now (marks .entry)) e (side .climb .node) (now (entries .entry)) (now (entries .exit)) ⌝ }
 {
     let climb = side.climb;
     let x = climb.node;
@@ -376,8 +473,18 @@ fn climb_link(
     e: usize,
     k: u64,
 )
-    requires { ⌜ (netVerdict (netOf (now links) (now parents) search) ≡ Taken) × Ready (treeOf (netOf (now links) (now parents) search)) (length (now parents)) (now near) (now count) (now bases) (now turns) × Asides (treeOf (netOf (now links) (now parents) search)) (length (now parents)) (now asides) × Spare (netOf (now links) (now parents) search) e k × Starting (netOf (now links) (now parents) search) e first second × (length (now parents) ≤ entriesIn (now entries)) ⌝ }
-    ensures { λ _. ⌜ Linked (netOf (now (links .entry)) (now (parents .entry)) search) (length (now (parents .entry))) (now (marks .entry)) e (now (entries .entry)) (now (entries .exit)) ⌝ }
+    requires { let g = netOf (now links) (now parents) search in
+        let t = treeOf g in
+        let n = length (now parents) in
+        ⌜ (netVerdict g ≡ Taken)
+        × Ready t n (now near) (now count) (now bases) (now turns)
+        × Asides t n (now asides)
+        × Spare g e k
+        × Starting g e first second
+        × (n ≤ entriesIn (now entries)) ⌝ }
+    ensures { λ _.
+        let g = netOf (now (links .entry)) (now (parents .entry)) search in
+        ⌜ Linked g (length (now (parents .entry))) (now (marks .entry)) e (now (entries .entry)) (now (entries .exit)) ⌝ }
 {
     let mut a = first;
     let mut b = second;
@@ -420,8 +527,18 @@ fn offer_link(
     entries: &mut [u64],
     e: usize,
 )
-    requires { ⌜ (netVerdict (netOf (now links) (now parents) search) ≡ Taken) × Ready (treeOf (netOf (now links) (now parents) search)) (length (now parents)) (now near) (now count) (now bases) (now turns) × Asides (treeOf (netOf (now links) (now parents) search)) (length (now parents)) (now asides) × Holds (length (now parents)) (deepest (treeOf (netOf (now links) (now parents) search))) (now deep) × (length (now parents) ≤ entriesIn (now entries)) × (e < linksIn (now links)) ⌝ }
-    ensures { λ _. ⌜ Linked (netOf (now (links .entry)) (now (parents .entry)) search) (length (now (parents .entry))) (now (marks .entry)) e (now (entries .entry)) (now (entries .exit)) ⌝ }
+    requires { let g = netOf (now links) (now parents) search in
+        let t = treeOf g in
+        let n = length (now parents) in
+        ⌜ (netVerdict g ≡ Taken)
+        × Ready t n (now near) (now count) (now bases) (now turns)
+        × Asides t n (now asides)
+        × Holds n (deepest t) (now deep)
+        × (n ≤ entriesIn (now entries))
+        × (e < linksIn (now links)) ⌝ }
+    ensures { λ _.
+        let g = netOf (now (links .entry)) (now (parents .entry)) search in
+        ⌜ Linked g (length (now (parents .entry))) (now (marks .entry)) e (now (entries .entry)) (now (entries .exit)) ⌝ }
 {
     let l = network::link_at(links, e);
     if !network::in_service(l) {
@@ -468,7 +585,8 @@ fn first_entry(search: Search, x: usize) -> Entry
 
 // The entry of x as it is before any link, where x is marked.
 fn clear_at(search: Search, marks: &[u64], entries: &mut [u64], x: usize)
-    ensures { λ _. ⌜ now (entries .exit) ≡ cond (marked (now (marks .entry)) x) (putEntry (now (entries .entry)) x (blank (cond (eqb x (search .root)) rootState bridgeState))) (now (entries .entry)) ⌝ }
+    ensures { λ _.
+        ⌜ now (entries .exit) ≡ cond (marked (now (marks .entry)) x) (putEntry (now (entries .entry)) x (blank (cond (eqb x (search .root)) rootState bridgeState))) (now (entries .entry)) ⌝ }
 {
     if rows::wide_at(marks, x) == 0 {
         return;
@@ -479,7 +597,8 @@ fn clear_at(search: Search, marks: &[u64], entries: &mut [u64], x: usize)
 // Each marked node's entry as it is before any link.
 fn clear_marked(parents: &[u16], search: Search, marks: &[u64], entries: &mut [u64])
     requires { ⌜ length (now parents) ≤ entriesIn (now entries) ⌝ }
-    ensures { λ _. ⌜ Entries (length (now (parents .entry))) (startAt (search .root) (now (marks .entry)) (now (entries .entry))) (now (entries .entry)) (now (entries .exit)) ⌝ }
+    ensures { λ _.
+        ⌜ Entries (length (now (parents .entry))) (startAt (search .root) (now (marks .entry)) (now (entries .entry))) (now (entries .entry)) (now (entries .exit)) ⌝ }
 {
     let mut x = 0;
     while x < parents.len() {
@@ -502,8 +621,17 @@ fn offer_links(
     marks: &[u64],
     entries: &mut [u64],
 )
-    requires { ⌜ (netVerdict (netOf (now links) (now parents) search) ≡ Taken) × Ready (treeOf (netOf (now links) (now parents) search)) (length (now parents)) (now near) (now count) (now bases) (now turns) × Asides (treeOf (netOf (now links) (now parents) search)) (length (now parents)) (now asides) × Holds (length (now parents)) (deepest (treeOf (netOf (now links) (now parents) search))) (now deep) × (length (now parents) ≤ entriesIn (now entries)) ⌝ }
-    ensures { λ _. ⌜ LinkedTo (netOf (now (links .entry)) (now (parents .entry)) search) (length (now (parents .entry))) (now (marks .entry)) (linksIn (now (links .entry))) (now (entries .entry)) (now (entries .exit)) ⌝ }
+    requires { let g = netOf (now links) (now parents) search in
+        let t = treeOf g in
+        let n = length (now parents) in
+        ⌜ (netVerdict g ≡ Taken)
+        × Ready t n (now near) (now count) (now bases) (now turns)
+        × Asides t n (now asides)
+        × Holds n (deepest t) (now deep)
+        × (n ≤ entriesIn (now entries)) ⌝ }
+    ensures { λ _.
+        let g = netOf (now (links .entry)) (now (parents .entry)) search in
+        ⌜ LinkedTo g (length (now (parents .entry))) (now (marks .entry)) (linksIn (now (links .entry))) (now (entries .entry)) (now (entries .exit)) ⌝ }
 {
     let m = network::links_in(links);
     let mut e = 0;
@@ -528,8 +656,12 @@ fn offer_links(
 
 // The entries of the marked nodes afresh; all others, and what lies past the entries, stay as they are.
 fn search_marked(links: &[u16], parents: &[u16], search: Search, marks: &[u64], entries: &mut [u64])
-    requires { ⌜ (netVerdict (netOf (now links) (now parents) search) ≡ Taken) × (length (now parents) ≤ entriesIn (now entries)) ⌝ }
-    ensures { λ _. ⌜ Entries (length (now (parents .entry))) (freshAt (netOf (now (links .entry)) (now (parents .entry)) search) (now (marks .entry)) (now (entries .entry))) (now (entries .entry)) (now (entries .exit)) ⌝ }
+    requires { let g = netOf (now links) (now parents) search in
+        ⌜ (netVerdict g ≡ Taken)
+        × (length (now parents) ≤ entriesIn (now entries)) ⌝ }
+    ensures { λ _.
+        let g = netOf (now (links .entry)) (now (parents .entry)) search in
+        ⌜ Entries (length (now (parents .entry))) (freshAt g (now (marks .entry)) (now (entries .entry))) (now (entries .entry)) (now (entries .exit)) ⌝ }
 {
     let mut near = [0u64; Memory::NODES];
     tree::distances(links, parents, search, &mut near);
@@ -577,7 +709,9 @@ fn search_marked(links: &[u16], parents: &[u16], search: Search, marks: &[u64], 
 
 // Whether a table can be worked out: refusals 1 to 9, then 10 where fewer entries are lent than there are nodes.
 pub fn check_table(links: &[u16], parents: &[u16], search: Search, entries: &[u64]) -> Verdict
-    ensures { λ r. ⌜ r ≡ tableVerdict (netOf (now (links .entry)) (now (parents .entry)) search) (now (entries .entry)) ⌝ }
+    ensures { λ r.
+        let g = netOf (now (links .entry)) (now (parents .entry)) search in
+        ⌜ r ≡ tableVerdict g (now (entries .entry)) ⌝ }
 {
     let said = sound::check_network(links, parents, search);
     let Checked::Sound(sizes) = said else {
@@ -594,7 +728,10 @@ pub fn refresh(
     marks: &[u64],
     entries: &mut [u64],
 ) -> Verdict
-    ensures { λ r. ⌜ (r ≡ tableVerdict (netOf (now (links .entry)) (now (parents .entry)) search) (now (entries .entry))) × (now (entries .exit) ≡ freshRow (netOf (now (links .entry)) (now (parents .entry)) search) (now (marks .entry)) (now (entries .entry))) ⌝ }
+    ensures { λ r.
+        let g = netOf (now (links .entry)) (now (parents .entry)) search in
+        ⌜ (r ≡ tableVerdict g (now (entries .entry)))
+        × (now (entries .exit) ≡ freshRow g (now (marks .entry)) (now (entries .entry))) ⌝ }
 {
     let said = check_table(links, parents, search, entries);
     let Verdict::Taken = said else {
@@ -606,7 +743,10 @@ pub fn refresh(
 
 // The table of all entries, into a lent row. Nothing is written on a refusal, nor past the last entry.
 pub fn table(links: &[u16], parents: &[u16], search: Search, entries: &mut [u64]) -> Verdict
-    ensures { λ r. ⌜ (r ≡ tableVerdict (netOf (now (links .entry)) (now (parents .entry)) search) (now (entries .entry))) × (now (entries .exit) ≡ tableRow (netOf (now (links .entry)) (now (parents .entry)) search) (now (entries .entry))) ⌝ }
+    ensures { λ r.
+        let g = netOf (now (links .entry)) (now (parents .entry)) search in
+        ⌜ (r ≡ tableVerdict g (now (entries .entry)))
+        × (now (entries .exit) ≡ tableRow g (now (entries .entry))) ⌝ }
 {
     let marks = [1u64; Memory::NODES];
     refresh(links, parents, search, &marks, entries)
@@ -625,7 +765,9 @@ pub fn check_entry(links: &[u16], parents: &[u16], search: Search, x: usize) -> 
 
 // The entry of node x, by a run that works out no other.
 fn search_one(links: &[u16], parents: &[u16], search: Search, x: usize) -> Entry
-    requires { ⌜ (netVerdict (netOf (now links) (now parents) search) ≡ Taken) × (x < length (now parents)) ⌝ }
+    requires { let g = netOf (now links) (now parents) search in
+        ⌜ (netVerdict g ≡ Taken)
+        × (x < length (now parents)) ⌝ }
     ensures { λ r. ⌜ r ≡ entry (netOf (now (links .entry)) (now (parents .entry)) search) x ⌝ }
 {
     let mut marks = [0u64; Memory::NODES];

@@ -27,7 +27,8 @@ use Rattle.tree.specs.declared.Climb.{Climb}
 use Rattle.tree.specs.declared.Answer.{Answer}
 use Rattle.tree.specs.declared.Answer.the-variants.{Is}
 use Rattle.tree.specs.Tree.{Tree, treeOf, climb, route, hasRoute, dist, hops}
-use Rattle.tree.specs.Answers.{roomVerdict, rowVerdict, distanceRow, lost, wayVerdict, answerIf, routeVerdict, routeRow, routeAnswer, waysVerdict, meetAnswer, apartAnswer}
+use Rattle.tree.specs.Answers.{roomVerdict, rowVerdict, distanceRow, lost, wayVerdict, answerIf, routeVerdict, routeRow, routeAnswer}
+use Rattle.tree.specs.Answers.{waysVerdict, meetAnswer, apartAnswer}
 use Rattle.tree.specs.Work.{Rooted, Routed, Onto}
 use Rattle.tree.proofs.Ways.{Way, top, hop, Home, way, home-up, route-root, route-length, hops-cut, dist-cut, under-root, way-root}
 use Rattle.tree.proofs.Climbing.{climb-root, climb-up}

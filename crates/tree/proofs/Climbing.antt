@@ -17,7 +17,8 @@ use Rattle.tree.specs.declared.Climb.{Climb}
 use Rattle.tree.specs.Tree.{Tree, climb, route, arrives, dist, under, hops, wayUp}
 use Rattle.tree.specs.Answers.{begun, stepped}
 use Rattle.tree.specs.Work.{Rooted, Along}
-use Rattle.tree.proofs.Ways.{Way, top, hop, Home, way, route-step, route-length, home-up, home-step, route-cut, under-self, under-trans, before-longer, after-shorter, hops-cut, way-head}
+use Rattle.tree.proofs.Ways.{Way, top, hop, Home, way, route-step, route-length, home-up, home-step, route-cut, under-self, under-trans}
+use Rattle.tree.proofs.Ways.{before-longer, after-shorter, hops-cut, way-head}
 
 -- a sum that is small enough is kept
 pub kept : (v : ℕ) → v < 2 ^ 64 → v % 2 ^ 64 ≡ v

@@ -10,7 +10,8 @@ use Rattle.rows.specs.Lists.{has, upTo, differ}
 use Rattle.rows.proofs.Tests.{clash}
 use Rattle.rows.proofs.Listed.{Meets, firstOf-meets, has-head, upTo-past}
 use Rattle.tree.specs.Tree.{Tree, route, dist, under, meet, apart, onPath}
-use Rattle.tree.proofs.Ways.{Way, top, hop, Home, way, way-root, home-up, dist-cut, dist-up, under-self, under-cut, before-longer, after-shorter, before-not-after}
+use Rattle.tree.proofs.Ways.{Way, top, hop, Home, way, way-root, home-up, dist-cut, dist-up, under-self, under-cut, before-longer}
+use Rattle.tree.proofs.Ways.{after-shorter, before-not-after}
 
 apart-bools : (a b c : Bool) → (a ≡ true → (b || c) ≡ false) → (b ≡ true → c ≡ false) → (a || b) ≡ differ (a || c) (b || c)
 apart-bools true b c f g = rw (f refl)

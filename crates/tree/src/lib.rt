@@ -8,7 +8,8 @@ ghost use Rattle.rows.specs.Count.{rowWith};
 ghost use Rattle.rows.specs.Lists.{has};
 ghost use Rattle.network.specs.Network.{netOf};
 ghost use Rattle.tree.specs.Tree.{treeOf, route as routeTo, hasRoute, dist};
-ghost use Rattle.tree.specs.Answers.{begun, stepped, roomVerdict, rowVerdict, distanceRow, lost, wayVerdict, answerIf, routeAnswer, routeRow, waysVerdict, meetAnswer, apartAnswer};
+ghost use Rattle.tree.specs.Answers.{begun, stepped, roomVerdict, rowVerdict, distanceRow, lost, wayVerdict, answerIf, routeAnswer, routeRow};
+ghost use Rattle.tree.specs.Answers.{waysVerdict, meetAnswer, apartAnswer};
 ghost use Rattle.tree.specs.Work.{Rooted, Routed, Onto};
 use edition::Edition;
 use edition::Memory;
@@ -66,7 +67,9 @@ impl Climb {
 
     // One step up.
     pub fn step(self, links: &[u16], parents: &[u16], search: Search) -> Climb
-        ensures { λ r. ⌜ r ≡ stepped (treeOf (netOf (now (links .entry)) (now (parents .entry)) search)) self ⌝ }
+        ensures { λ r.
+            let g = netOf (now (links .entry)) (now (parents .entry)) search in
+            ⌜ r ≡ stepped (treeOf g) self ⌝ }
     {
         let more = rise(links, parents, search, self.node);
         Climb {
@@ -124,7 +127,9 @@ fn check_row(n: usize, room: usize) -> Verdict
 // Writes d(u) of every node.
 fn fill_distances(links: &[u16], parents: &[u16], search: Search, row: &mut [u64])
     requires { ⌜ (length (now parents) ≤ nodeLimit) × (length (now parents) ≤ length (now row)) ⌝ }
-    ensures { λ _. ⌜ now (row .exit) ≡ rowWith (dist (treeOf (netOf (now (links .entry)) (now (parents .entry)) search))) (length (now (parents .entry))) (now (row .entry)) ⌝ }
+    ensures { λ _.
+        let g = netOf (now (links .entry)) (now (parents .entry)) search in
+        ⌜ now (row .exit) ≡ rowWith (dist (treeOf g)) (length (now (parents .entry))) (now (row .entry)) ⌝ }
 {
     let mut u = 0;
     while u < parents.len() {
@@ -136,7 +141,10 @@ fn fill_distances(links: &[u16], parents: &[u16], search: Search, row: &mut [u64
 
 // d(u) of every node, into a lent row of at least n numbers. Refusals 1 and 10.
 pub fn distances(links: &[u16], parents: &[u16], search: Search, row: &mut [u64]) -> Verdict
-    ensures { λ r. ⌜ (r ≡ rowVerdict (netOf (now (links .entry)) (now (parents .entry)) search) (now (row .entry))) × (now (row .exit) ≡ distanceRow (netOf (now (links .entry)) (now (parents .entry)) search) (now (row .entry))) ⌝ }
+    ensures { λ r.
+        let g = netOf (now (links .entry)) (now (parents .entry)) search in
+        ⌜ (r ≡ rowVerdict g (now (row .entry)))
+        × (now (row .exit) ≡ distanceRow g (now (row .entry))) ⌝ }
 {
     let room = check_row(parents.len(), row.len());
     let Verdict::Taken = room else {
@@ -178,7 +186,9 @@ fn write_route(
     at: usize,
 ) -> u64
     requires { ⌜ (left ≤ nodeLimit) × (at + left ≤ length (now row)) ⌝ }
-    ensures { λ r. ⌜ Routed (treeOf (netOf (now (links .entry)) (now (parents .entry)) search)) left u at (now (row .entry)) r (now (row .exit)) ⌝ }
+    ensures { λ r.
+        let g = netOf (now (links .entry)) (now (parents .entry)) search in
+        ⌜ Routed (treeOf g) left u at (now (row .entry)) r (now (row .exit)) ⌝ }
 {
     if left == 0 {
         return 0;
@@ -204,7 +214,10 @@ fn no_answer(v: Verdict) -> Answer
 
 // The route of u into a lent row, and its length. Refusals 1, 8 and 10.
 pub fn route(links: &[u16], parents: &[u16], search: Search, u: usize, row: &mut [usize]) -> Answer
-    ensures { λ r. ⌜ (r ≡ routeAnswer (netOf (now (links .entry)) (now (parents .entry)) search) u (now (row .entry))) × (now (row .exit) ≡ routeRow (netOf (now (links .entry)) (now (parents .entry)) search) u (now (row .entry))) ⌝ }
+    ensures { λ r.
+        let g = netOf (now (links .entry)) (now (parents .entry)) search in
+        ⌜ (r ≡ routeAnswer g u (now (row .entry)))
+        × (now (row .exit) ≡ routeRow g u (now (row .entry))) ⌝ }
 {
     let way = check_way(links, parents, search, u);
     let Verdict::Taken = way else {
@@ -235,8 +248,13 @@ fn in_row(row: &[usize], x: usize) -> bool
 
 // The climb from u to the first node of its route that is in a row that has the root.
 fn climb_onto(links: &[u16], parents: &[u16], search: Search, row: &[usize], u: usize) -> Climb
-    requires { ⌜ (length (now parents) ≤ nodeLimit) × (hasRoute (treeOf (netOf (now links) (now parents) search)) u ≡ true) × (has (search .root) (now row) ≡ true) ⌝ }
-    ensures { λ r. ⌜ Onto (treeOf (netOf (now (links .entry)) (now (parents .entry)) search)) u (now (row .entry)) r ⌝ }
+    requires { let g = netOf (now links) (now parents) search in
+        ⌜ (length (now parents) ≤ nodeLimit)
+        × (hasRoute (treeOf g) u ≡ true)
+        × (has (search .root) (now row) ≡ true) ⌝ }
+    ensures { λ r.
+        let g = netOf (now (links .entry)) (now (parents .entry)) search in
+        ⌜ Onto (treeOf g) u (now (row .entry)) r ⌝ }
 {
     let mut c = Climb::begin(u);
     while !in_row(row, c.node) {
@@ -247,8 +265,15 @@ fn climb_onto(links: &[u16], parents: &[u16], search: Search, row: &[usize], u: 
 
 // The climb from u to where its route meets that of z, by a work row for the way up from z.
 fn climb_to_meet(links: &[u16], parents: &[u16], search: Search, u: usize, z: usize) -> Climb
-    requires { ⌜ (length (now parents) ≤ nodeLimit) × (hasRoute (treeOf (netOf (now links) (now parents) search)) u ≡ true) × (hasRoute (treeOf (netOf (now links) (now parents) search)) z ≡ true) ⌝ }
-    ensures { λ r. ⌜ Onto (treeOf (netOf (now (links .entry)) (now (parents .entry)) search)) u (routeTo (treeOf (netOf (now (links .entry)) (now (parents .entry)) search)) z) r ⌝ }
+    requires { let g = netOf (now links) (now parents) search in
+        let t = treeOf g in
+        ⌜ (length (now parents) ≤ nodeLimit)
+        × (hasRoute t u ≡ true)
+        × (hasRoute t z ≡ true) ⌝ }
+    ensures { λ r.
+        let g = netOf (now (links .entry)) (now (parents .entry)) search in
+        let t = treeOf g in
+        ⌜ Onto t u (routeTo t z) r ⌝ }
 {
     let mut way = [0usize; Memory::NODES];
     let c = to_root(links, parents, search, z);

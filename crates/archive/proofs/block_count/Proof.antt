@@ -18,7 +18,13 @@ blocks-for-requires-2 : tie.Need-blocks-for-requires-2
 blocks-for-requires-2 c κs = search needs
 
 add-result-2 : tie.Need-add-result-2
-add-result-2 c = omega (arith, some-blocks _ _ _ (c .before .blocks-for .ensures) (c .before .before .pre .1), some-blocks _ _ _ (c .blocks-for2 .ensures) (c .before .before .pre .0))
+add-result-2 c =
+    omega (
+      arith,
+      some-blocks _ _ _ (c .before .blocks-for .ensures) (c .before .before .pre .1),
+      some-blocks _ _ _ (c .blocks-for2 .ensures)
+          (c .before .before .pre .0),
+    )
 
 returns : tie.Need-returns
 unfolding blockCount

@@ -23,7 +23,15 @@ loop-holds : tie.Need-loop-holds Inv-loop μ-loop
 loop-holds c = passed-start _ _
 
 check-part-requires : tie.Need-check-part-requires Inv-loop μ-loop
-check-part-requires c κs = (c .before .before .before .before .pre .0, c .before .before .before .before .pre .1, omega (arith, few-blocks _ _ _ (c .before .before .block-count .ensures) (c .before .before .before .before .pre .0) (c .before .before .before .before .pre .1), c .if1 .left), blocks-room _ _ _ _ (c .before .before .before .before .pre .2) _ (c .before .before .block-count .ensures) (c .if1 .left))
+check-part-requires c κs =
+    let block-count = c .before .before .block-count in
+    let pre = c .before .before .before .before .pre in (
+      pre .0,
+      pre .1,
+      omega (arith, few-blocks _ _ _ (block-count .ensures) (pre .0) (pre .1), c .if1 .left),
+      blocks-room _ _ _ _ (pre .2) _
+          (block-count .ensures) (c .if1 .left),
+    )
 
 enum-told : tie.Need-enum-told Inv-loop μ-loop
 enum-told c = search needs
@@ -32,19 +40,32 @@ enum-told-2 : tie.Need-enum-told-2 Inv-loop μ-loop
 enum-told-2 c = search needs
 
 add-i : tie.Need-add-i Inv-loop μ-loop
-add-i c = omega (arith, few-blocks _ _ _ (c .before .before .before .before .before .block-count .ensures) (c .before .before .before .before .before .before .before .pre .0) (c .before .before .before .before .before .before .before .pre .1), c .before .before .before .if1 .left)
+add-i c =
+    let if1 = c .before .before .before .if1 in
+    let block-count = c .before .before .before .before .before .block-count in
+    let pre = c .before .before .before .before .before .before .before .pre in
+    omega (arith, few-blocks _ _ _ (block-count .ensures) (pre .0) (pre .1), if1 .left)
 
 loop-less : tie.Need-loop-less Inv-loop μ-loop
 loop-less c = omega (arith, c .before .before .before .if1 .left)
 
 loop-again : tie.Need-loop-again Inv-loop μ-loop
-loop-again c = passed-more _ _ _ (c .before .before .before .before .loop .inv) (count-is _ _ _ _ refl (c .before .before .before .before .before .block-count .ensures) (c .before .before .before .if1 .left)) _ (c .before .before .check-part .ensures) (c .enum-told .given .1)
+loop-again c =
+    let if1 = c .before .before .before .if1 in
+    let loop = c .before .before .before .before .loop in
+    let block-count = c .before .before .before .before .before .block-count in
+    passed-more _ _ _ (loop .inv) (count-is _ _ _ _ refl (block-count .ensures) (if1 .left)) _ (c .before .before .check-part .ensures) (c .enum-told .given .1)
 
 returns : tie.Need-returns Inv-loop μ-loop
 returns c = passed-all _ _ _ (c .before .loop .inv) (count-end _ _ _ _ refl (c .before .before .block-count .ensures) (c .if1 .taken))
 
 returns-2 : tie.Need-returns-2 Inv-loop μ-loop
-returns-2 c = refused-here _ _ _ (c .before .before .before .before .loop .inv) (count-is _ _ _ _ refl (c .before .before .before .before .before .block-count .ensures) (c .before .before .before .if1 .left)) _ (c .before .before .check-part .ensures) _ (c .enum-told2 .given .1)
+returns-2 c =
+    let if1 = c .before .before .before .if1 in
+    let loop = c .before .before .before .before .loop in
+    let block-count = c .before .before .before .before .before .block-count in
+    refused-here _ _ _ (loop .inv) (count-is _ _ _ _ refl (block-count .ensures) (if1 .left)) _ (c .before .before .check-part .ensures) _
+    (c .enum-told2 .given .1)
 
 pub check-blocks-spec : {M : Type 1} → statement M
 check-blocks-spec =

@@ -32,16 +32,29 @@ enum-told-4 : tie.Need-enum-told-4
 enum-told-4 c = search needs
 
 returns-2 : tie.Need-returns-2
-returns-2 c = room-refuses _ _ _ _ _ (sound-told _ _ _ (c .before .before .before .before .before .check-network .ensures) (c .before .before .before .enum-told .given .1) .0) _ (c .before .before .refuse-if .ensures) _ (c .enum-told4 .given .1)
+returns-2 c =
+    let enum-told = c .before .before .before .enum-told in
+    let check-network = c .before .before .before .before .before .check-network in
+    room-refuses _ _ _ _ _ (sound-told _ _ _ (check-network .ensures) (enum-told .given .1) .0) _ (c .before .before .refuse-if .ensures) _
+    (c .enum-told4 .given .1)
 
 first-bad-entry-requires : tie.Need-first-bad-entry-requires
-first-bad-entry-requires c κs = (sound-told _ _ _ (c .before .before .before .before .before .check-network .ensures) (c .before .before .before .enum-told .given .1) .0, c .before .before .before .before .before .before .before .before .before .pre)
+first-bad-entry-requires c κs =
+    let enum-told = c .before .before .before .enum-told in
+    let check-network = c .before .before .before .before .before .check-network in
+    let pre = c .before .before .before .before .before .before .before .before .before .pre in
+    (sound-told _ _ _ (check-network .ensures) (enum-told .given .1) .0, pre)
 
 refused-at-requires : tie.Need-refused-at-requires
 refused-at-requires c κs = search needs
 
 returns-3 : tie.Need-returns-3
-returns-3 c = entries-decide _ _ _ _ _ (sound-told _ _ _ (c .before .before .before .before .before .before .before .check-network .ensures) (c .before .before .before .before .before .enum-told .given .1) .0) _ (c .before .before .before .before .refuse-if .ensures) (c .before .before .enum-told3 .given .1) _ (c .before .first-bad-entry .ensures) _ (c .refused-at .ensures)
+returns-3 c =
+    let refuse-if = c .before .before .before .before .refuse-if in
+    let enum-told = c .before .before .before .before .before .enum-told in
+    let check-network = c .before .before .before .before .before .before .before .check-network in
+    entries-decide _ _ _ _ _ (sound-told _ _ _ (check-network .ensures) (enum-told .given .1) .0) _ (refuse-if .ensures)
+    (c .before .before .enum-told3 .given .1) _ (c .before .first-bad-entry .ensures) _ (c .refused-at .ensures)
 
 pub check-content-spec : {M : Type 1} → statement M
 check-content-spec =

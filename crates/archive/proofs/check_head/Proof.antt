@@ -21,7 +21,13 @@ returns : tie.Need-returns
 returns c = length-refuses _ _ (c .before .before .before .is-unequal .ensures) _ (c .before .before .refuse-if .ensures) _ (c .enum-told2 .given .1)
 
 check-part-requires : tie.Need-check-part-requires
-check-part-requires c κs = (omega arith, omega arith, omega arith, first-there _ _ (c .before .before .before .is-unequal .ensures) _ (c .before .before .refuse-if .ensures) (c .enum-told .given .1))
+check-part-requires c κs = (
+  omega arith,
+  omega arith,
+  omega arith,
+  first-there _ _ (c .before .before .before .is-unequal .ensures) _ (c .before .before .refuse-if .ensures)
+      (c .enum-told .given .1),
+)
 
 enum-told-3 : tie.Need-enum-told-3
 enum-told-3 c = search needs
@@ -30,7 +36,11 @@ enum-told-4 : tie.Need-enum-told-4
 enum-told-4 c = search needs
 
 returns-2 : tie.Need-returns-2
-returns-2 c = block-refuses _ _ (c .before .before .before .before .before .before .is-unequal .ensures) _ (c .before .before .before .before .before .refuse-if .ensures) (c .before .before .before .enum-told .given .1) _ (c .before .before .check-part .ensures) _ (c .enum-told4 .given .1)
+returns-2 c =
+    let enum-told = c .before .before .before .enum-told in
+    let refuse-if = c .before .before .before .before .before .refuse-if in
+    let is-unequal = c .before .before .before .before .before .before .is-unequal in
+    block-refuses _ _ (is-unequal .ensures) _ (refuse-if .ensures) (enum-told .given .1) _ (c .before .before .check-part .ensures) _ (c .enum-told4 .given .1)
 
 header-of-requires : tie.Need-header-of-requires
 header-of-requires c κs = search needs
@@ -42,7 +52,14 @@ check-sizes-requires : tie.Need-check-sizes-requires
 check-sizes-requires c κs = search needs
 
 returns-3 : tie.Need-returns-3
-returns-3 c = sizes-decide _ _ (c .before .before .before .before .before .before .before .before .before .is-unequal .ensures) _ (c .before .before .before .before .before .before .before .before .refuse-if .ensures) (c .before .before .before .before .before .before .enum-told .given .1) _ (c .before .before .before .before .before .check-part .ensures) (c .before .before .before .enum-told3 .given .1) _ (c .before .before .header-of .ensures) _ (c .before .limits .ensures) _ (c .check-sizes .ensures)
+returns-3 c =
+    let enum-told3 = c .before .before .before .enum-told3 in
+    let check-part = c .before .before .before .before .before .check-part in
+    let enum-told = c .before .before .before .before .before .before .enum-told in
+    let refuse-if = c .before .before .before .before .before .before .before .before .refuse-if in
+    let is-unequal = c .before .before .before .before .before .before .before .before .before .is-unequal in
+    sizes-decide _ _ (is-unequal .ensures) _ (refuse-if .ensures) (enum-told .given .1) _ (check-part .ensures) (enum-told3 .given .1) _
+    (c .before .before .header-of .ensures) _ (c .before .limits .ensures) _ (c .check-sizes .ensures)
 
 pub check-head-spec : {M : Type 1} → statement M
 check-head-spec =

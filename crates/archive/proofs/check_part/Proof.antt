@@ -36,7 +36,10 @@ check-block-requires : tie.Need-check-block-requires
 check-block-requires c κs = search needs
 
 returns : tie.Need-returns
-returns c = part-refusal _ _ _ _ _ (c .before .before .before .part-at .ensures) (c .before .before .before .before .before .args .i * blockBytes + blockBytes - c .before .before .before .before .before .args .i * blockBytes) (omega arith) _ (c .check-block .ensures)
+returns c =
+    let part-at = c .before .before .before .part-at in
+    let args = c .before .before .before .before .before .args in
+    part-refusal _ _ _ _ _ (part-at .ensures) (args .i * blockBytes + blockBytes - args .i * blockBytes) (omega arith) _ (c .check-block .ensures)
 
 pub check-part-spec : {M : Type 1} → statement M
 check-part-spec =

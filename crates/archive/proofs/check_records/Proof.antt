@@ -37,13 +37,15 @@ check-content-requires : tie.Need-check-content-requires
 check-content-requires c κs =
     let filled = c .before .before .before .before .before in
     let start = filled .before .before .before .before .before .before in
-    entries-placed _ _ (start .pre) _ _ (filled .before .before .before .fill-links .ensures) _ _ (filled .fill-parents .ensures) _ (c .before .before .first-links .ensures) _ (c .first .ensures)
+    entries-placed _ _ (start .pre) _ _ (filled .before .before .before .fill-links .ensures) _ _ (filled .fill-parents .ensures) _
+    (c .before .before .first-links .ensures) _ (c .first .ensures)
 
 returns : tie.Need-returns
 returns c =
     let filled = c .before .before .before .before .before .before in
     let start = filled .before .before .before .before .before .before in
-    content-is _ _ (start .pre) _ _ (filled .before .before .before .fill-links .ensures) _ _ (filled .fill-parents .ensures) _ (c .before .before .before .first-links .ensures) _ (c .before .first .ensures) _ _ (c .check-content .ensures)
+    content-is _ _ (start .pre) _ _ (filled .before .before .before .fill-links .ensures) _ _ (filled .fill-parents .ensures) _
+    (c .before .before .before .first-links .ensures) _ (c .before .first .ensures) _ _ (c .check-content .ensures)
 
 pub check-records-spec : {M : Type 1} → statement M
 check-records-spec =

@@ -23,13 +23,19 @@ unfolding writeVerdict
 returns c = handed-first _ _ (c .before .before .before .check-network .ensures) _ (c .before .enum-told .given .1) _ _ (c .handed-up .ensures)
 
 file-length-requires : tie.Need-file-length-requires
-file-length-requires c κs = sizes-small _ _ _ (c .before .before .before .before .before .before .before .args .file .now) _ _ (c .before .before .before .check-network .ensures) (c .before .said .given .1)
+file-length-requires c κs =
+    let check-network = c .before .before .before .check-network in
+    let args = c .before .before .before .before .before .before .before .args in
+    sizes-small _ _ _ (args .file .now) _ _ (check-network .ensures) (c .before .said .given .1)
 
 refuse-if-requires : tie.Need-refuse-if-requires
 refuse-if-requires c κs = search needs
 
 returns-2 : tie.Need-returns-2
-returns-2 c = room-judged _ _ _ _ _ _ (c .before .before .before .before .before .check-network .ensures) (c .before .before .before .said .given .1) _ (c .before .file-length .ensures) _ (c .refuse-if .ensures)
+returns-2 c =
+    let said = c .before .before .before .said in
+    let check-network = c .before .before .before .before .before .check-network in
+    room-judged _ _ _ _ _ _ (check-network .ensures) (said .given .1) _ (c .before .file-length .ensures) _ (c .refuse-if .ensures)
 
 pub check-write-spec : {M : Type 1} → statement M
 check-write-spec =

@@ -32,7 +32,9 @@ add-result-4 c = omega (arith, c .before .pre .1, some-blocks _ _ _ (c .blocks-f
 
 returns : tie.Need-returns
 unfolding entryPlace
-returns c = ap (λ k. (1 + k + c .before .args .x / entriesABlock) * blockBytes + frontBytes + c .before .args .x % entriesABlock * entryBytes) (c .blocks-for .ensures)
+returns c =
+    ap (λ k. (1 + k + c .before .args .x / entriesABlock) * blockBytes + frontBytes + c .before .args .x % entriesABlock * entryBytes)
+    (c .blocks-for .ensures)
 
 pub entry-place-spec : {M : Type 1} → statement M
 entry-place-spec =

@@ -27,7 +27,11 @@ loop-less : tie.Need-loop-less Inv-loop μ-loop
 loop-less c = search needs
 
 loop-again : tie.Need-loop-again Inv-loop μ-loop
-loop-again c = linking-more _ _ _ _ _ (c .before .before .before .before .before .before .loop .inv) (c .before .before .before .before .before .loop-test .taken) _ (c .before .before .before .stored-link .ensures) _ (c .before .row .given) (c .before .before .put-link .ensures)
+loop-again c =
+    let stored-link = c .before .before .before .stored-link in
+    let loop-test = c .before .before .before .before .before .loop-test in
+    let loop = c .before .before .before .before .before .before .loop in
+    linking-more _ _ _ _ _ (loop .inv) (loop-test .taken) _ (stored-link .ensures) _ (c .before .row .given) (c .before .before .put-link .ensures)
 
 same-length : tie.Need-same-length Inv-loop μ-loop
 same-length c = c .before .loop .inv .size

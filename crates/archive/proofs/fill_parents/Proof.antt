@@ -18,7 +18,9 @@ loop-holds : tie.Need-loop-holds Inv-loop μ-loop
 loop-holds c = filled-start _ _ _ (c .before .before .pre .2)
 
 entry-place-requires : tie.Need-entry-place-requires Inv-loop μ-loop
-entry-place-requires c κs = (c .before .before .before .before .pre .0, omega (arith, c .before .before .before .before .pre .1, c .loop-test .taken))
+entry-place-requires c κs =
+    let pre = c .before .before .before .before .pre in
+    (pre .0, omega (arith, pre .1, c .loop-test .taken))
 
 two-at-requires : tie.Need-two-at-requires Inv-loop μ-loop
 two-at-requires c κs = search needs
@@ -36,7 +38,9 @@ loop-less : tie.Need-loop-less Inv-loop μ-loop
 loop-less c = search needs
 
 loop-again : tie.Need-loop-again Inv-loop μ-loop
-loop-again c = filled-more _ _ _ _ _ (c .before .before .before .loop .inv) (c .before .before .loop-test .taken) _ (parent-number _ _ _ _ (c .before .entry-place .ensures) _ (c .two-at .ensures))
+loop-again c =
+    let loop = c .before .before .before .loop in
+    filled-more _ _ _ _ _ (loop .inv) (c .before .before .loop-test .taken) _ (parent-number _ _ _ _ (c .before .entry-place .ensures) _ (c .two-at .ensures))
 
 same-length : tie.Need-same-length Inv-loop μ-loop
 same-length c = filled-length _ _ _ _ _ (c .before .loop .inv)

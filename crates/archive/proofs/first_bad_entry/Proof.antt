@@ -18,10 +18,16 @@ slice-aggregate-seek-bad-entry : tie.Need-slice-aggregate-seek-bad-entry
 slice-aggregate-seek-bad-entry c = search needs
 
 seek-bad-entry-requires : tie.Need-seek-bad-entry-requires
-seek-bad-entry-requires c κs = (links-small _ _ _ (c .before .before .before .before .before .before .before .before .pre .0) _ (c .before .links-in .ensures), few-nodes _ _ _ (c .before .before .before .before .before .before .before .before .pre .0), placed-by _ _ _ _ (c .before .links-in .ensures) (c .before .before .before .before .before .before .before .before .pre .1))
+seek-bad-entry-requires c κs =
+    let links-in = c .before .links-in in
+    let pre = c .before .before .before .before .before .before .before .before .pre in
+    (links-small _ _ _ (pre .0) _ (links-in .ensures), few-nodes _ _ _ (pre .0), placed-by _ _ _ _ (links-in .ensures) (pre .1))
 
 returns : tie.Need-returns
-returns c = stored-bad _ _ _ (c .before .before .before .before .before .before .before .before .before .pre .0) _ _ (c .before .before .before .before .table .ensures .1) _ (c .before .before .links-in .ensures) _ (c .seek-bad-entry .ensures)
+returns c =
+    let table = c .before .before .before .before .table in
+    let pre = c .before .before .before .before .before .before .before .before .before .pre in
+    stored-bad _ _ _ (pre .0) _ _ (table .ensures .1) _ (c .before .before .links-in .ensures) _ (c .seek-bad-entry .ensures)
 
 pub first-bad-entry-spec : {M : Type 1} → statement M
 first-bad-entry-spec =

@@ -18,16 +18,25 @@ put-entry-requires : tie.Need-put-entry-requires
 put-entry-requires c κs = search needs
 
 entry-place-requires : tie.Need-entry-place-requires
-entry-place-requires c κs = (c .before .before .before .before .before .before .before .before .pre .0, omega (arith, c .before .before .before .before .before .before .before .before .pre .1))
+entry-place-requires c κs =
+    let pre = c .before .before .before .before .before .before .before .before .pre in
+    (pre .0, omega (arith, pre .1))
 
 slice-aggregate-is-same : tie.Need-slice-aggregate-is-same
 slice-aggregate-is-same c = search needs
 
 is-same-requires : tie.Need-is-same-requires
-is-same-requires c κs = omega (arith, c .before .before .before .before .before .before .before .before .before .before .pre .2, c .before .entry-place .ensures, own-length _ _ _ (c .before .before .before .put-entry .ensures))
+is-same-requires c κs =
+    let put-entry = c .before .before .before .put-entry in
+    let pre = c .before .before .before .before .before .before .before .before .before .before .pre in
+    omega (arith, pre .2, c .before .entry-place .ensures, own-length _ _ _ (put-entry .ensures))
 
 returns : tie.Need-returns
-returns c = bad-is _ _ _ (c .before .before .before .before .put-entry .ensures) _ _ _ _ _ (c .before .before .before .before .before .before .parent-of .ensures) (c .before .before .before .before .before .entry-at .ensures) _ (c .before .before .entry-place .ensures) _ (c .is-same .ensures)
+returns c =
+    let put-entry = c .before .before .before .before .put-entry in
+    let entry-at = c .before .before .before .before .before .entry-at in
+    let parent-of = c .before .before .before .before .before .before .parent-of in
+    bad-is _ _ _ (put-entry .ensures) _ _ _ _ _ (parent-of .ensures) (entry-at .ensures) _ (c .before .before .entry-place .ensures) _ (c .is-same .ensures)
 
 pub is-bad-entry-spec : {M : Type 1} → statement M
 is-bad-entry-spec =

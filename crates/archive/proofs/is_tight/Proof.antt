@@ -14,14 +14,19 @@ returns c = rw (← c .before .before .links-in .ensures, lt-ltb _ _ (c .if1 .ta
 
 returns-2 : tie.Need-returns-2
 unfolding tight
-returns-2 c = rw (← c .before .before .before .before .links-in .ensures, le-ltb _ _ (c .before .before .if1 .left), lt-ltb _ _ (c .if2 .taken))
+returns-2 c =
+    let links-in = c .before .before .before .before .links-in in
+    rw (← links-in .ensures, le-ltb _ _ (c .before .before .if1 .left), lt-ltb _ _ (c .if2 .taken))
 
 entries-in-requires : tie.Need-entries-in-requires
 entries-in-requires c κs = search needs
 
 returns-3 : tie.Need-returns-3
 unfolding tight
-returns-3 c = rw (← c .before .before .before .before .before .before .links-in .ensures, le-ltb _ _ (c .before .before .before .before .if1 .left), le-ltb _ _ (c .before .before .if2 .left), c .before .entries-in .ensures)
+returns-3 c =
+    let if1 = c .before .before .before .before .if1 in
+    let links-in = c .before .before .before .before .before .before .links-in in
+    rw (← links-in .ensures, le-ltb _ _ (if1 .left), le-ltb _ _ (c .before .before .if2 .left), c .before .entries-in .ensures)
 
 pub is-tight-spec : {M : Type 1} → statement M
 is-tight-spec = tie.close (tie.spec links-in-requires returns returns-2 entries-in-requires returns-3)

@@ -23,7 +23,9 @@ part-of-requires-2 c κs = search needs
 
 returns-2 : tie.Need-returns-2
 unfolding partAt
-returns-2 c = rw (ne-eqb _ _ (c .before .before .before .if1 .left), ← c .before .before .blocks-for .ensures, le-leb _ _ (c .before .if2 .taken)) (c .part-of2 .ensures)
+returns-2 c =
+    let if1 = c .before .before .before .if1 in
+    rw (ne-eqb _ _ (if1 .left), ← c .before .before .blocks-for .ensures, le-leb _ _ (c .before .if2 .taken)) (c .part-of2 .ensures)
 
 sub-part-of-2 : tie.Need-sub-part-of-2
 sub-part-of-2 c = search needs
@@ -36,7 +38,9 @@ part-of-requires-3 c κs = search needs
 
 returns-3 : tie.Need-returns-3
 unfolding partAt
-returns-3 c = rw (ne-eqb _ _ (c .before .before .before .if1 .left), ← c .before .before .blocks-for .ensures, lt-leb _ _ (c .before .if2 .left)) (c .part-of3 .ensures)
+returns-3 c =
+    let if1 = c .before .before .before .if1 in
+    rw (ne-eqb _ _ (if1 .left), ← c .before .before .blocks-for .ensures, lt-leb _ _ (c .before .if2 .left)) (c .part-of3 .ensures)
 
 pub part-at-spec : {M : Type 1} → statement M
 part-at-spec =

@@ -20,7 +20,10 @@ same-length : tie.Need-same-length
 same-length c = search needs
 
 returns : tie.Need-returns
-returns c = header-put _ _ _ _ _ _ _ _ _ (c .before .before .before .before .before .if1 .taken) _ (c .before .before .before .links-in .ensures) (c .before .before .put-header .ensures)
+returns c =
+    let links-in = c .before .before .before .links-in in
+    let if1 = c .before .before .before .before .before .if1 in
+    header-put _ _ _ _ _ _ _ _ _ (if1 .taken) _ (links-in .ensures) (c .before .before .put-header .ensures)
 
 link-at-requires : tie.Need-link-at-requires
 link-at-requires c κs = search needs
@@ -32,7 +35,11 @@ same-length-2 : tie.Need-same-length-2
 same-length-2 c = search needs
 
 returns-2 : tie.Need-returns-2
-returns-2 c = link-put _ _ _ _ _ _ _ _ _ (c .before .before .before .before .before .before .if1 .left) (c .before .before .before .before .before .if2 .taken) _ (c .before .before .before .link-at .ensures) (c .before .before .put-link .ensures)
+returns-2 c =
+    let link-at = c .before .before .before .link-at in
+    let if2 = c .before .before .before .before .before .if2 in
+    let if1 = c .before .before .before .before .before .before .if1 in
+    link-put _ _ _ _ _ _ _ _ _ (if1 .left) (if2 .taken) _ (link-at .ensures) (c .before .before .put-link .ensures)
 
 parent-of-requires : tie.Need-parent-of-requires
 parent-of-requires c κs = search needs
@@ -47,7 +54,12 @@ same-length-3 : tie.Need-same-length-3
 same-length-3 c = search needs
 
 returns-3 : tie.Need-returns-3
-returns-3 c = entry-put _ _ _ _ _ _ _ _ _ (c .before .before .before .before .before .before .before .if1 .left) (c .before .before .before .before .before .before .if2 .left) _ (c .before .before .before .before .parent-of .ensures) _ (c .before .before .before .entry-at .ensures) (c .before .before .put-entry .ensures)
+returns-3 c =
+    let entry-at = c .before .before .before .entry-at in
+    let parent-of = c .before .before .before .before .parent-of in
+    let if2 = c .before .before .before .before .before .before .if2 in
+    let if1 = c .before .before .before .before .before .before .before .if1 in
+    entry-put _ _ _ _ _ _ _ _ _ (if1 .left) (if2 .left) _ (parent-of .ensures) _ (entry-at .ensures) (c .before .before .put-entry .ensures)
 
 pub put-record-spec : {M : Type 1} → statement M
 put-record-spec =

@@ -20,31 +20,55 @@ loop-holds : tie.Need-loop-holds Inv-loop μ-loop
 loop-holds c = laying-start _ _ _ (c .before .before .before .before .before .pre .0) (record-size _ _ _ _ _)
 
 add-put-record : tie.Need-add-put-record Inv-loop μ-loop
-add-put-record c = omega (arith, c .before .before .before .before .before .before .before .before .before .pre .0 .low, c .before .if1 .taken)
+add-put-record c =
+    let pre = c .before .before .before .before .before .before .before .before .before .pre in
+    omega (arith, pre .0 .low, c .before .if1 .taken)
 
 mul-put-record : tie.Need-mul-put-record Inv-loop μ-loop
-mul-put-record c = omega (arith, laying-place _ _ _ (c .before .before .before .before .before .before .before .before .before .before .pre .0) (record-size _ _ _ _ _) _ _ (c .before .before .before .before .loop .inv) (c .before .before .if1 .taken) _ (c .before .before .before .before .before .held-bytes .ensures))
+mul-put-record c =
+    let loop = c .before .before .before .before .loop in
+    let held-bytes = c .before .before .before .before .before .held-bytes in
+    let pre = c .before .before .before .before .before .before .before .before .before .before .pre in
+    omega (arith, laying-place _ _ _ (pre .0) (record-size _ _ _ _ _) _ _ (loop .inv) (c .before .before .if1 .taken) _ (held-bytes .ensures))
 
 add-put-record-2 : tie.Need-add-put-record-2 Inv-loop μ-loop
-add-put-record-2 c = omega (arith, laying-place _ _ _ (c .before .before .before .before .before .before .before .before .before .before .pre .0) (record-size _ _ _ _ _) _ _ (c .before .before .before .before .loop .inv) (c .before .before .if1 .taken) _ (c .before .before .before .before .before .held-bytes .ensures))
+add-put-record-2 c =
+    let loop = c .before .before .before .before .loop in
+    let held-bytes = c .before .before .before .before .before .held-bytes in
+    let pre = c .before .before .before .before .before .before .before .before .before .before .pre in
+    omega (arith, laying-place _ _ _ (pre .0) (record-size _ _ _ _ _) _ _ (loop .inv) (c .before .before .if1 .taken) _ (held-bytes .ensures))
 
 put-record-requires : tie.Need-put-record-requires Inv-loop μ-loop
-put-record-requires c κs = (c .before .before .before .before .before .before .before .before .before .before .pre .1, c .before .before .before .before .before .before .before .before .before .before .pre .2)
+put-record-requires c κs =
+    let pre = c .before .before .before .before .before .before .before .before .before .before .pre in
+    (pre .1, pre .2)
 
 add-r : tie.Need-add-r Inv-loop μ-loop
-add-r c = omega (arith, c .before .before .before .before .before .before .before .before .before .before .before .before .before .pre .0 .low, c .before .before .before .before .before .if1 .taken)
+add-r c =
+    let if1 = c .before .before .before .before .before .if1 in
+    let pre = c .before .before .before .before .before .before .before .before .before .before .before .before .before .pre in
+    omega (arith, pre .0 .low, if1 .taken)
 
 loop-less : tie.Need-loop-less Inv-loop μ-loop
 loop-less c = search needs
 
 loop-again : tie.Need-loop-again Inv-loop μ-loop
-loop-again c = laying-more _ _ _ (c .before .before .before .before .before .before .before .before .before .before .before .before .before .pre .0) (record-size _ _ _ _ _) _ _ (c .before .before .before .before .before .before .before .loop .inv) (c .before .before .before .before .before .if1 .taken) _ (c .before .before .before .before .before .before .before .before .held-bytes .ensures) _ (c .before .before .put-record .ensures)
+loop-again c =
+    let if1 = c .before .before .before .before .before .if1 in
+    let loop = c .before .before .before .before .before .before .before .loop in
+    let held-bytes = c .before .before .before .before .before .before .before .before .held-bytes in
+    let pre = c .before .before .before .before .before .before .before .before .before .before .before .before .before .pre in
+    laying-more _ _ _ (pre .0) (record-size _ _ _ _ _) _ _ (loop .inv) (if1 .taken) _ (held-bytes .ensures) _ (c .before .before .put-record .ensures)
 
 same-length : tie.Need-same-length Inv-loop μ-loop
-same-length c = laying-length _ _ _ (c .before .before .before .before .before .before .before .before .pre .0) (record-size _ _ _ _ _) _ _ (c .before .before .loop .inv)
+same-length c =
+    let pre = c .before .before .before .before .before .before .before .before .pre in
+    laying-length _ _ _ (pre .0) (record-size _ _ _ _ _) _ _ (c .before .before .loop .inv)
 
 returns : tie.Need-returns Inv-loop μ-loop
-returns c = laying-end _ _ _ (c .before .before .before .before .before .before .before .before .pre .0) (record-size _ _ _ _ _) _ _ (c .before .before .loop .inv) (c .if1 .left)
+returns c =
+    let pre = c .before .before .before .before .before .before .before .before .pre in
+    laying-end _ _ _ (pre .0) (record-size _ _ _ _ _) _ _ (c .before .before .loop .inv) (c .if1 .left)
 
 pub put-records-spec : {M : Type 1} → statement M
 put-records-spec =

@@ -12,7 +12,10 @@ enum-told : tie.Need-enum-told
 enum-told c = search needs
 
 fill-rows-requires : tie.Need-fill-rows-requires
-fill-rows-requires c κs = sym (c .before .before .before .before .before .check-read .ensures) ∙ c .before .before .before .enum-told .given .1
+fill-rows-requires c κs =
+    let enum-told = c .before .before .before .enum-told in
+    let check-read = c .before .before .before .before .before .check-read in
+    sym (check-read .ensures) ∙ enum-told .given .1
 
 enum-known-said : tie.Need-enum-known-said
 enum-known-said c = search needs
@@ -27,7 +30,12 @@ same-length-3 : tie.Need-same-length-3
 same-length-3 c = search needs
 
 returns : tie.Need-returns
-returns c = read-taken _ _ _ _ _ (c .before .before .before .before .before .before .before .before .before .before .before .before .check-read .ensures) (c .before .before .before .before .before .before .before .before .before .before .enum-told .given .1) _ (c .before .before .before .before .before .before .fill-rows .ensures .0) _ _ _ (c .before .before .before .before .before .before .fill-rows .ensures .1) (c .before .before .before .before .before .before .fill-rows .ensures .2) (c .before .before .before .before .before .before .fill-rows .ensures .3)
+returns c =
+    let fill-rows = c .before .before .before .before .before .before .fill-rows in
+    let enum-told = c .before .before .before .before .before .before .before .before .before .before .enum-told in
+    let check-read = c .before .before .before .before .before .before .before .before .before .before .before .before .check-read in
+    read-taken _ _ _ _ _ (check-read .ensures) (enum-told .given .1) _ (fill-rows .ensures .0) _ _ _ (fill-rows .ensures .1) (fill-rows .ensures .2)
+    (fill-rows .ensures .3)
 
 same-length-4 : tie.Need-same-length-4
 same-length-4 c = search needs

@@ -18,7 +18,9 @@ loop-holds : tie.Need-loop-holds Inv-loop μ-loop
 loop-holds c = seek-start _ _
 
 is-bad-entry-requires : tie.Need-is-bad-entry-requires Inv-loop μ-loop
-is-bad-entry-requires c κs = (c .before .before .before .before .before .pre .0, omega (arith, c .before .before .before .before .before .pre .1, c .loop-test .taken), c .before .before .before .before .before .pre .2 .each _ (c .loop-test .taken))
+is-bad-entry-requires c κs =
+    let pre = c .before .before .before .before .before .pre in
+    (pre .0, omega (arith, pre .1, c .loop-test .taken), pre .2 .each _ (c .loop-test .taken))
 
 or-here-requires : tie.Need-or-here-requires Inv-loop μ-loop
 or-here-requires c κs = search needs
@@ -30,7 +32,9 @@ loop-less : tie.Need-loop-less Inv-loop μ-loop
 loop-less c = search needs
 
 loop-again : tie.Need-loop-again Inv-loop μ-loop
-loop-again c = seek-more _ _ _ _ (c .before .before .before .loop .inv) (c .before .before .loop-test .taken) _ (c .before .is-bad-entry .ensures) _ (c .or-here .ensures)
+loop-again c =
+    let loop = c .before .before .before .loop in
+    seek-more _ _ _ _ (loop .inv) (c .before .before .loop-test .taken) _ (c .before .is-bad-entry .ensures) _ (c .or-here .ensures)
 
 returns : tie.Need-returns Inv-loop μ-loop
 returns c = seek-done _ _ _ _ (c .before .loop .inv) (c .loop-test .left)

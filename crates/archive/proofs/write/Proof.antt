@@ -21,7 +21,11 @@ same-length : tie.Need-same-length
 same-length c = search needs
 
 returns : tie.Need-returns
-returns c = write-taken _ _ _ _ _ (c .before .before .before .before .before .before .check-write .ensures) (c .before .before .before .before .enum-told .given .1) _ (c .before .before .write-sound .ensures .0) _ (c .before .before .write-sound .ensures .1)
+returns c =
+    let write-sound = c .before .before .write-sound in
+    let enum-told = c .before .before .before .before .enum-told in
+    let check-write = c .before .before .before .before .before .before .check-write in
+    write-taken _ _ _ _ _ (check-write .ensures) (enum-told .given .1) _ (write-sound .ensures .0) _ (write-sound .ensures .1)
 
 same-length-2 : tie.Need-same-length-2
 same-length-2 c = search needs

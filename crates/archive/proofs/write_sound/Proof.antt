@@ -15,19 +15,27 @@ slice-aggregate-write-blocks : tie.Need-slice-aggregate-write-blocks
 slice-aggregate-write-blocks c = search needs
 
 write-blocks-requires : tie.Need-write-blocks-requires
-write-blocks-requires c κs = (write-tabled _ _ _ _ (c .before .before .before .before .before .before .before .before .pre) _ (c .before .before .before .table .ensures .1), write-room _ _ _ _ (c .before .before .before .before .before .before .before .before .pre))
+write-blocks-requires c κs =
+    let table = c .before .before .before .table in
+    let pre = c .before .before .before .before .before .before .before .before .pre in
+    (write-tabled _ _ _ _ (pre) _ (table .ensures .1), write-room _ _ _ _ (pre))
 
 links-in-requires : tie.Need-links-in-requires
 links-in-requires c κs = search needs
 
 file-length-requires : tie.Need-file-length-requires
-file-length-requires c κs = (write-numbers _ _ _ _ (c .before .before .before .before .before .before .before .before .before .before .before .before .pre) .0, omega (arith, write-numbers _ _ _ _ (c .before .before .before .before .before .before .before .before .before .before .before .before .pre) .1, c .links-in .ensures))
+file-length-requires c κs =
+    let pre = c .before .before .before .before .before .before .before .before .before .before .before .before .pre in
+    (write-numbers _ _ _ _ (pre) .0, omega (arith, write-numbers _ _ _ _ (pre) .1, c .links-in .ensures))
 
 same-length : tie.Need-same-length
 same-length c = search needs
 
 returns : tie.Need-returns
-returns c = (length-is _ _ _ _ (c .before .before .before .before .before .before .before .before .before .before .before .before .before .pre) _ (c .before .links-in .ensures) _ (c .file-length .ensures), c .before .before .before .before .write-blocks .ensures)
+returns c =
+    let write-blocks = c .before .before .before .before .write-blocks in
+    let pre = c .before .before .before .before .before .before .before .before .before .before .before .before .before .pre in
+    (length-is _ _ _ _ (pre) _ (c .before .links-in .ensures) _ (c .file-length .ensures), write-blocks .ensures)
 
 pub write-sound-spec : {M : Type 1} → statement M
 write-sound-spec =

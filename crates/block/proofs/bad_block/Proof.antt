@@ -15,13 +15,21 @@ bad-front-requires : tie.Need-bad-front-requires
 bad-front-requires c κs = search needs
 
 returns-2 : tie.Need-returns-2
-returns-2 c = front-bad _ _ _ _ _ (c .before .before .before .is-unheard .ensures) (c .before .before .if1 .left) _ (c .before .bad-front .ensures) (c .if2 .taken)
+returns-2 c =
+    let is-unheard = c .before .before .before .is-unheard in
+    front-bad _ _ _ _ _ (is-unheard .ensures) (c .before .before .if1 .left) _ (c .before .bad-front .ensures) (c .if2 .taken)
 
 bad-filler-requires : tie.Need-bad-filler-requires
-bad-filler-requires c κs = (c .before .before .before .before .before .pre, sym (c .before .before .before .is-unheard .ensures) ∙ c .before .before .if1 .left)
+bad-filler-requires c κs =
+    let is-unheard = c .before .before .before .is-unheard in
+    let pre = c .before .before .before .before .before .pre in
+    (pre, sym (is-unheard .ensures) ∙ c .before .before .if1 .left)
 
 returns-3 : tie.Need-returns-3
-returns-3 c = filler-decides _ _ _ _ _ (c .before .before .before .before .is-unheard .ensures) (c .before .before .before .if1 .left) _ (c .before .before .bad-front .ensures) (c .before .if2 .left) _ (c .bad-filler .ensures)
+returns-3 c =
+    let if1 = c .before .before .before .if1 in
+    let is-unheard = c .before .before .before .before .is-unheard in
+    filler-decides _ _ _ _ _ (is-unheard .ensures) (if1 .left) _ (c .before .before .bad-front .ensures) (c .before .if2 .left) _ (c .bad-filler .ensures)
 
 pub bad-block-spec : {M : Type 1} → statement M
 bad-block-spec =

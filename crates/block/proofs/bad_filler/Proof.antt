@@ -25,13 +25,21 @@ returns : tie.Need-returns
 returns c = unused-dirty _ _ _ _ (c .before .before .bytes-of-record .ensures) _ (c .before .is-dirty .ensures) (c .if1 .taken)
 
 returns-2 : tie.Need-returns-2
-returns-2 c = no-entries _ _ _ _ (c .before .before .before .bytes-of-record .ensures) _ (c .before .before .is-dirty .ensures) (c .before .if1 .left) (c .if2 .taken)
+returns-2 c =
+    let bytes-of-record = c .before .before .before .bytes-of-record in
+    no-entries _ _ _ _ (bytes-of-record .ensures) _ (c .before .before .is-dirty .ensures) (c .before .if1 .left) (c .if2 .taken)
 
 has-dirty-entry-requires : tie.Need-has-dirty-entry-requires
-has-dirty-entry-requires c κs = omega (arith, heard-entries _ _ (c .before .before .before .before .before .pre .1) (c .if2 .left), c .before .before .before .before .before .pre .0)
+has-dirty-entry-requires c κs =
+    let pre = c .before .before .before .before .before .pre in
+    omega (arith, heard-entries _ _ (pre .1) (c .if2 .left), pre .0)
 
 returns-3 : tie.Need-returns-3
-returns-3 c = entries-decide _ _ _ _ (c .before .before .before .before .bytes-of-record .ensures) _ (c .before .before .before .is-dirty .ensures) (c .before .before .if1 .left) (c .before .if2 .left) _ (c .has-dirty-entry .ensures)
+returns-3 c =
+    let is-dirty = c .before .before .before .is-dirty in
+    let bytes-of-record = c .before .before .before .before .bytes-of-record in
+    entries-decide _ _ _ _ (bytes-of-record .ensures) _ (is-dirty .ensures) (c .before .before .if1 .left) (c .before .if2 .left) _
+    (c .has-dirty-entry .ensures)
 
 pub bad-filler-spec : {M : Type 1} → statement M
 bad-filler-spec =

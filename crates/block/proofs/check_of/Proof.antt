@@ -29,7 +29,10 @@ loop-less : tie.Need-loop-less Inv-loop μ-loop
 loop-less c = search needs
 
 loop-again : tie.Need-loop-again Inv-loop μ-loop
-loop-again c = sum-more _ (c .before .before .before .before .before .pre) _ _ (c .before .before .before .loop .inv) (c .before .before .loop-test .taken) _ (c .before .word-at .ensures) _ (c .ones-add .ensures) (search needs)
+loop-again c =
+    let loop = c .before .before .before .loop in
+    let pre = c .before .before .before .before .before .pre in
+    sum-more _ (pre) _ _ (loop .inv) (c .before .before .loop-test .taken) _ (c .before .word-at .ensures) _ (c .ones-add .ensures) (search needs)
 
 sub-result : tie.Need-sub-result Inv-loop μ-loop
 sub-result c = omega (arith, c .before .loop .inv .most)

@@ -20,7 +20,9 @@ is-dirty-entry-requires : tie.Need-is-dirty-entry-requires Inv-loop μ-loop
 is-dirty-entry-requires c κs = search needs
 
 returns : tie.Need-returns Inv-loop μ-loop
-returns c = clean-found _ _ _ (c .before .before .before .loop .inv) (c .before .before .loop-test .taken) (sym (c .before .is-dirty-entry .ensures) ∙ c .if1 .taken)
+returns c =
+    let loop = c .before .before .before .loop in
+    clean-found _ _ _ (loop .inv) (c .before .before .loop-test .taken) (sym (c .before .is-dirty-entry .ensures) ∙ c .if1 .taken)
 
 add-r : tie.Need-add-r Inv-loop μ-loop
 add-r c = search needs
@@ -29,7 +31,9 @@ loop-less : tie.Need-loop-less Inv-loop μ-loop
 loop-less c = search needs
 
 loop-again : tie.Need-loop-again Inv-loop μ-loop
-loop-again c = clean-more _ _ _ (c .before .before .before .loop .inv) (c .before .before .loop-test .taken) (sym (c .before .is-dirty-entry .ensures) ∙ c .if1 .left)
+loop-again c =
+    let loop = c .before .before .before .loop in
+    clean-more _ _ _ (loop .inv) (c .before .before .loop-test .taken) (sym (c .before .is-dirty-entry .ensures) ∙ c .if1 .left)
 
 returns-2 : tie.Need-returns-2 Inv-loop μ-loop
 returns-2 c = clean-all _ _ _ (c .before .loop .inv) (c .loop-test .left)

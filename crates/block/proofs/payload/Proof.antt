@@ -35,10 +35,22 @@ part-result-end-2 : tie.Need-part-result-end-2
 part-result-end-2 c = search needs
 
 returns : tie.Need-returns
-returns c = (payload-taken _ _ _ _ _ (c .before .before .before .check-block .ensures) (c .before .enum-told .given .1), (refl, ap (λ (n : ℕ). n + c .before .before .before .before .before .args .b .ptr .1) (place-taken _ _ _ _ _ (c .before .before .before .check-block .ensures) (c .before .enum-told .given .1))))
+returns c =
+    let enum-told = c .before .enum-told in
+    let check-block = c .before .before .before .check-block in
+    let args = c .before .before .before .before .before .args in (
+      payload-taken _ _ _ _ _ (check-block .ensures) (enum-told .given .1),
+      (refl, ap (λ (n : ℕ). n + args .b .ptr .1) (place-taken _ _ _ _ _ (check-block .ensures) (enum-told .given .1))),
+    )
 
 returns-2 : tie.Need-returns-2
-returns-2 c = (payload-none _ _ _ _ _ (c .before .before .before .check-block .ensures) _ (c .before .enum-told2 .given .1), (refl, ap (λ (n : ℕ). n + c .before .before .before .before .before .args .b .ptr .1) (place-none _ _ _ _ _ (c .before .before .before .check-block .ensures) _ (c .before .enum-told2 .given .1))))
+returns-2 c =
+    let enum-told2 = c .before .enum-told2 in
+    let check-block = c .before .before .before .check-block in
+    let args = c .before .before .before .before .before .args in (
+      payload-none _ _ _ _ _ (check-block .ensures) _ (enum-told2 .given .1),
+      (refl, ap (λ (n : ℕ). n + args .b .ptr .1) (place-none _ _ _ _ _ (check-block .ensures) _ (enum-told2 .given .1))),
+    )
 
 pub payload-spec : {M : Type 1} → statement M
 payload-spec =

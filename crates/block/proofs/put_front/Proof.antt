@@ -19,10 +19,14 @@ put-number-requires-2 : tie.Need-put-number-requires-2
 put-number-requires-2 c κs = search needs
 
 same-length : tie.Need-same-length
-same-length c = simp (c .before .before .put-number2 .ensures, c .before .before .before .before .before .before .put-number .ensures, length-sets, length-set)
+same-length c =
+    let put-number = c .before .before .before .before .before .before .put-number in
+    simp (c .before .before .put-number2 .ensures, put-number .ensures, length-sets, length-set)
 
 returns : tie.Need-returns
-returns c = front-put _ _ _ _ _ _ (c .before .before .before .before .before .before .put-number .ensures) (c .before .before .put-number2 .ensures)
+returns c =
+    let put-number = c .before .before .before .before .before .before .put-number in
+    front-put _ _ _ _ _ _ (put-number .ensures) (c .before .before .put-number2 .ensures)
 
 pub put-front-spec : {M : Type 1} → statement M
 put-front-spec =

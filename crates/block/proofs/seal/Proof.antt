@@ -26,13 +26,27 @@ put-front-requires : tie.Need-put-front-requires
 put-front-requires c κs = search needs
 
 add-clear : tie.Need-add-clear
-add-clear c = omega (arith, size-fits _ _ (sym (c .before .before .before .before .before .before .before .is-unheard .ensures) ∙ c .before .before .before .before .before .before .if2 .left) _ (c .before .before .before .before .before .bytes-of-record .ensures))
+add-clear c =
+    let bytes-of-record = c .before .before .before .before .before .bytes-of-record in
+    let if2 = c .before .before .before .before .before .before .if2 in
+    let is-unheard = c .before .before .before .before .before .before .before .is-unheard in
+    omega (arith, size-fits _ _ (sym (is-unheard .ensures) ∙ if2 .left) _ (bytes-of-record .ensures))
 
 sub-clear : tie.Need-sub-clear
-sub-clear c = omega (arith, size-fits _ _ (sym (c .before .before .before .before .before .before .before .is-unheard .ensures) ∙ c .before .before .before .before .before .before .if2 .left) _ (c .before .before .before .before .before .bytes-of-record .ensures))
+sub-clear c =
+    let bytes-of-record = c .before .before .before .before .before .bytes-of-record in
+    let if2 = c .before .before .before .before .before .before .if2 in
+    let is-unheard = c .before .before .before .before .before .before .before .is-unheard in
+    omega (arith, size-fits _ _ (sym (is-unheard .ensures) ∙ if2 .left) _ (bytes-of-record .ensures))
 
 clear-requires : tie.Need-clear-requires
-clear-requires c κs = seal-room _ _ _ _ (c .before .before .before .before .before .before .before .before .if1 .left) _ (c .before .before .before .before .before .before .before .is-unheard .ensures) (c .before .before .before .before .before .before .if2 .left) _ (c .before .before .before .before .before .bytes-of-record .ensures) _ (c .before .before .before .put-front .ensures)
+clear-requires c κs =
+    let put-front = c .before .before .before .put-front in
+    let bytes-of-record = c .before .before .before .before .before .bytes-of-record in
+    let if2 = c .before .before .before .before .before .before .if2 in
+    let is-unheard = c .before .before .before .before .before .before .before .is-unheard in
+    let if1 = c .before .before .before .before .before .before .before .before .if1 in
+    seal-room _ _ _ _ (if1 .left) _ (is-unheard .ensures) (if2 .left) _ (bytes-of-record .ensures) _ (put-front .ensures)
 
 check-of-requires : tie.Need-check-of-requires
 check-of-requires c κs = search needs
@@ -47,7 +61,16 @@ same-length : tie.Need-same-length
 same-length c = search needs
 
 returns-3 : tie.Need-returns-3
-returns-3 c = seal-is _ _ _ _ (c .before .before .before .before .before .before .before .before .before .before .before .before .before .before .before .before .before .if1 .left) _ (c .before .before .before .before .before .before .before .before .before .before .before .before .before .before .before .before .is-unheard .ensures) (c .before .before .before .before .before .before .before .before .before .before .before .before .before .before .before .if2 .left) _ (c .before .before .before .before .before .before .before .before .before .before .before .before .before .before .bytes-of-record .ensures) _ (c .before .before .before .before .before .before .before .before .before .before .before .before .put-front .ensures) _ (c .before .before .before .before .before .before .before .before .clear .ensures) _ (c .before .before .before .before .check-of .ensures) _ (c .before .before .put-number .ensures)
+returns-3 c =
+    let check-of = c .before .before .before .before .check-of in
+    let clear = c .before .before .before .before .before .before .before .before .clear in
+    let put-front = c .before .before .before .before .before .before .before .before .before .before .before .before .put-front in
+    let bytes-of-record = c .before .before .before .before .before .before .before .before .before .before .before .before .before .before .bytes-of-record in
+    let if2 = c .before .before .before .before .before .before .before .before .before .before .before .before .before .before .before .if2 in
+    let is-unheard = c .before .before .before .before .before .before .before .before .before .before .before .before .before .before .before .before .is-unheard in
+    let if1 = c .before .before .before .before .before .before .before .before .before .before .before .before .before .before .before .before .before .if1 in
+    seal-is _ _ _ _ (if1 .left) _ (is-unheard .ensures) (if2 .left) _ (bytes-of-record .ensures) _ (put-front .ensures) _ (clear .ensures) _
+    (check-of .ensures) _ (c .before .before .put-number .ensures)
 
 pub seal-spec : {M : Type 1} → statement M
 seal-spec =

@@ -18,7 +18,10 @@ cast-flip-up : tie.Need-cast-flip-up
 cast-flip-up c = search needs
 
 flip-up-requires : tie.Need-flip-up-requires
-flip-up-requires c κs = (apply-sound _ _ _ _ _ (c .before .before .before .before .before .before .before .before .before .pre), first-node _ _ _ _ _ (c .before .before .before .before .before .before .before .before .before .pre) _ (c .before .before .before .link-at .ensures), marks-room _ _ _ _ _ (c .before .before .before .before .before .before .before .before .before .pre))
+flip-up-requires c κs =
+    let link-at = c .before .before .before .link-at in
+    let pre = c .before .before .before .before .before .before .before .before .before .pre in
+    (apply-sound _ _ _ _ _ (pre), first-node _ _ _ _ _ (pre) _ (link-at .ensures), marks-room _ _ _ _ _ (pre))
 
 slice-aggregate-flip-up-2 : tie.Need-slice-aggregate-flip-up-2
 slice-aggregate-flip-up-2 c = search needs
@@ -27,7 +30,15 @@ cast-flip-up-2 : tie.Need-cast-flip-up-2
 cast-flip-up-2 c = search needs
 
 flip-up-requires-2 : tie.Need-flip-up-requires-2
-flip-up-requires-2 c κs = (apply-sound _ _ _ _ _ (c .before .before .before .before .before .before .before .before .before .before .before .before .before .before .pre), omega (arith, second-node _ _ _ _ _ (c .before .before .before .before .before .before .before .before .before .before .before .before .before .before .pre) _ (c .before .before .before .before .before .before .before .before .link-at .ensures), root-node _ _ _ _ _ (c .before .before .before .before .before .before .before .before .before .before .before .before .before .before .pre)), marks-still _ _ _ _ _ (c .before .before .before .before .before .before .before .before .before .before .before .before .before .before .pre) _ (c .before .before .before .before .before .before .before .before .link-at .ensures) _ (c .before .before .before .before .flip-up .ensures))
+flip-up-requires-2 c κs =
+    let flip-up = c .before .before .before .before .flip-up in
+    let link-at = c .before .before .before .before .before .before .before .before .link-at in
+    let pre = c .before .before .before .before .before .before .before .before .before .before .before .before .before .before .pre in (
+      apply-sound _ _ _ _ _ (pre),
+      omega (arith, second-node _ _ _ _ _ (pre) _ (link-at .ensures), root-node _ _ _ _ _ (pre)),
+      marks-still _ _ _ _ _
+          (pre) _ (link-at .ensures) _ (flip-up .ensures),
+    )
 
 cast-set-link : tie.Need-cast-set-link
 cast-set-link c = search needs
@@ -48,7 +59,13 @@ same-length-2 : tie.Need-same-length-2
 same-length-2 c = search needs
 
 returns : tie.Need-returns
-returns c = apply-is _ _ _ _ _ (c .before .before .before .before .before .before .before .before .before .before .before .before .before .before .before .before .before .before .before .before .before .before .before .before .before .before .before .pre) _ (c .before .before .before .before .before .before .before .before .before .before .before .before .before .before .before .before .before .before .before .before .before .link-at .ensures) _ (c .before .before .before .before .before .before .before .before .before .before .before .before .before .before .before .before .before .flip-up .ensures) _ (c .before .before .before .before .before .before .before .before .before .before .before .before .flip-up2 .ensures) _ (c .before .before .before .before .before .before .before .before .set-link .ensures) _ (c .before .before .refresh .ensures .1)
+returns c =
+    let set-link = c .before .before .before .before .before .before .before .before .set-link in
+    let flip-up2 = c .before .before .before .before .before .before .before .before .before .before .before .before .flip-up2 in
+    let flip-up = c .before .before .before .before .before .before .before .before .before .before .before .before .before .before .before .before .before .flip-up in
+    let link-at = c .before .before .before .before .before .before .before .before .before .before .before .before .before .before .before .before .before .before .before .before .before .link-at in
+    let pre = c .before .before .before .before .before .before .before .before .before .before .before .before .before .before .before .before .before .before .before .before .before .before .before .before .before .before .before .pre in
+    apply-is _ _ _ _ _ (pre) _ (link-at .ensures) _ (flip-up .ensures) _ (flip-up2 .ensures) _ (set-link .ensures) _ (c .before .before .refresh .ensures .1)
 
 pub apply-spec : {M : Type 1} → statement M
 apply-spec =

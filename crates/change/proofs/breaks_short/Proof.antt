@@ -41,7 +41,14 @@ keeps-short-requires : tie.Need-keeps-short-requires
 keeps-short-requires c κs = search needs
 
 returns-2 : tie.Need-returns-2
-returns-2 c = breaks-is _ _ _ _ (c .before .before .before .before .before .before .before .before .before .before .before .before .before .before .before .before .pre .0) (c .before .before .before .before .before .before .before .before .before .before .before .before .before .before .before .before .pre .1) (c .before .before .before .before .before .before .before .before .before .before .before .before .if1 .left) _ (c .before .before .before .before .before .before .before .before .before .before .distances .ensures .1) _ (c .before .before .before .before .before .before .before .link-at .ensures) _ (c .before .before .before .before .wide-at .ensures) _ (c .before .wide-at2 .ensures) _ (c .keeps-short .ensures)
+returns-2 c =
+    let wide-at = c .before .before .before .before .wide-at in
+    let link-at = c .before .before .before .before .before .before .before .link-at in
+    let distances = c .before .before .before .before .before .before .before .before .before .before .distances in
+    let if1 = c .before .before .before .before .before .before .before .before .before .before .before .before .if1 in
+    let pre = c .before .before .before .before .before .before .before .before .before .before .before .before .before .before .before .before .pre in
+    breaks-is _ _ _ _ (pre .0) (pre .1) (if1 .left) _ (distances .ensures .1) _ (link-at .ensures) _ (wide-at .ensures) _
+    (c .before .wide-at2 .ensures) _ (c .keeps-short .ensures)
 
 pub breaks-short-spec : {M : Type 1} → statement M
 breaks-short-spec =

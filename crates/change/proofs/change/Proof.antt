@@ -24,7 +24,9 @@ returns : tie.Need-returns
 returns c = change-refused _ _ _ _ _ _ (c .before .before .check-change .ensures) _ (c .enum-told2 .given .1)
 
 apply-requires : tie.Need-apply-requires
-apply-requires c κs = sym (c .before .before .before .before .check-change .ensures) ∙ c .before .before .enum-told .given .1
+apply-requires c κs =
+    let check-change = c .before .before .before .before .check-change in
+    sym (check-change .ensures) ∙ c .before .before .enum-told .given .1
 
 same-length-3 : tie.Need-same-length-3
 same-length-3 c = search needs
@@ -33,7 +35,11 @@ same-length-4 : tie.Need-same-length-4
 same-length-4 c = search needs
 
 returns-2 : tie.Need-returns-2
-returns-2 c = change-taken _ _ _ _ _ _ (c .before .before .before .before .before .before .before .before .before .check-change .ensures) (c .before .before .before .before .before .before .before .enum-told .given .1) _ _ (c .before .before .before .before .apply .ensures .0) (c .before .before .before .before .apply .ensures .1)
+returns-2 c =
+    let apply = c .before .before .before .before .apply in
+    let enum-told = c .before .before .before .before .before .before .before .enum-told in
+    let check-change = c .before .before .before .before .before .before .before .before .before .check-change in
+    change-taken _ _ _ _ _ _ (check-change .ensures) (enum-told .given .1) _ _ (apply .ensures .0) (apply .ensures .1)
 
 pub change-spec : {M : Type 1} → statement M
 change-spec =

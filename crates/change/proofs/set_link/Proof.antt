@@ -15,7 +15,9 @@ same-length c = search needs
 
 returns : tie.Need-returns
 unfolding setLink
-returns c = rw (← c .before .before .before .before .link-at .ensures) (c .before .before .put-link .ensures)
+returns c =
+    let link-at = c .before .before .before .before .link-at in
+    rw (← link-at .ensures) (c .before .before .put-link .ensures)
 
 pub set-link-spec : {M : Type 1} → statement M
 set-link-spec = tie.close (tie.spec link-at-requires put-link-requires same-length returns)

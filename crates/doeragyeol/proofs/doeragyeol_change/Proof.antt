@@ -18,7 +18,9 @@ same-length-2 : tie.Need-same-length-2
 same-length-2 c = search needs
 
 returns : tie.Need-returns
-returns c = (c .word .ensures ∙ ap wordOf (c .before .before .before .before .before .change .ensures .0), c .before .before .before .before .before .change .ensures .1, c .before .before .before .before .before .change .ensures .2)
+returns c =
+    let change = c .before .before .before .before .before .change in
+    (c .word .ensures ∙ ap wordOf (change .ensures .0), change .ensures .1, change .ensures .2)
 
 pub doeragyeol-change-spec : {M : Type 1} → statement M
 doeragyeol-change-spec =

@@ -29,10 +29,17 @@ same-length : tie.Need-same-length
 same-length c = search needs
 
 returns-2 : tie.Need-returns-2
-returns-2 c = check-sound _ _ (c .before .before .before .before .before .before .before .before .if1 .left) _ (c .before .before .before .before .before .before .before .check-network .ensures) _ (c .before .before .before .before .before .told .given .1) _ (c .before .before .put-two .ensures)
+returns-2 c =
+    let told = c .before .before .before .before .before .told in
+    let check-network = c .before .before .before .before .before .before .before .check-network in
+    let if1 = c .before .before .before .before .before .before .before .before .if1 in
+    check-sound _ _ (if1 .left) _ (check-network .ensures) _ (told .given .1) _ (c .before .before .put-two .ensures)
 
 returns-3 : tie.Need-returns-3
-returns-3 c = check-unsound _ _ (c .before .before .before .before .before .if1 .left) _ (c .before .before .before .before .check-network .ensures) _ (c .before .before .why .given .1) _ (c .refusal-word .ensures)
+returns-3 c =
+    let check-network = c .before .before .before .before .check-network in
+    let if1 = c .before .before .before .before .before .if1 in
+    check-unsound _ _ (if1 .left) _ (check-network .ensures) _ (c .before .before .why .given .1) _ (c .refusal-word .ensures)
 
 pub doeragyeol-check-spec : {M : Type 1} → statement M
 doeragyeol-check-spec =

@@ -38,13 +38,21 @@ same-length-2 : tie.Need-same-length-2
 same-length-2 c = search needs
 
 returns-2 : tie.Need-returns-2
-returns-2 c = map-taken _ _ _ (c .before .before .before .before .before .before .before .before .before .before .before .before .before .if1 .left) _ (c .before .before .before .before .before .before .before .before .before .before .before .unprotected-map .ensures .0) _ (c .before .before .before .before .before .before .before .before .before .before .before .unprotected-map .ensures .1) _ (c .before .before .before .before .before .before .before .counted .given .1) _ (c .before .before .put-two .ensures)
+returns-2 c =
+    let counted = c .before .before .before .before .before .before .before .counted in
+    let unprotected-map = c .before .before .before .before .before .before .before .before .before .before .before .unprotected-map in
+    let if1 = c .before .before .before .before .before .before .before .before .before .before .before .before .before .if1 in
+    map-taken _ _ _ (if1 .left) _ (unprotected-map .ensures .0) _ (unprotected-map .ensures .1) _ (counted .given .1) _ (c .before .before .put-two .ensures)
 
 same-length-3 : tie.Need-same-length-3
 same-length-3 c = search needs
 
 returns-3 : tie.Need-returns-3
-returns-3 c = map-refused _ _ _ (c .before .before .before .before .before .before .before .before .if1 .left) _ (c .before .before .before .before .before .before .unprotected-map .ensures .0) _ (c .before .before .before .before .before .before .unprotected-map .ensures .1) _ (c .before .before .why .given .1) _ (c .refusal-word .ensures)
+returns-3 c =
+    let unprotected-map = c .before .before .before .before .before .before .unprotected-map in
+    let if1 = c .before .before .before .before .before .before .before .before .if1 in
+    map-refused _ _ _ (if1 .left) _ (unprotected-map .ensures .0) _ (unprotected-map .ensures .1) _ (c .before .before .why .given .1) _
+    (c .refusal-word .ensures)
 
 pub doeragyeol-map-spec : {M : Type 1} → statement M
 doeragyeol-map-spec =

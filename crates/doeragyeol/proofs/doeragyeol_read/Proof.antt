@@ -38,7 +38,12 @@ same-length-4 : tie.Need-same-length-4
 same-length-4 c = search needs
 
 returns-2 : tie.Need-returns-2
-returns-2 c = read-taken _ _ _ _ _ (c .before .before .before .before .before .before .before .before .before .before .before .before .before .before .before .before .before .if1 .left) _ (c .before .before .before .before .before .before .before .before .before .before .before .before .before .read .ensures .0) _ _ _ (c .before .before .before .before .before .before .before .before .before .before .before .before .before .read .ensures .1) (c .before .before .before .before .before .before .before .before .before .before .before .before .before .read .ensures .2) (c .before .before .before .before .before .before .before .before .before .before .before .before .before .read .ensures .3) _ (c .before .before .before .before .before .head .given .1) _ (c .before .before .put-header .ensures)
+returns-2 c =
+    let head = c .before .before .before .before .before .head in
+    let read = c .before .before .before .before .before .before .before .before .before .before .before .before .before .read in
+    let if1 = c .before .before .before .before .before .before .before .before .before .before .before .before .before .before .before .before .before .if1 in
+    read-taken _ _ _ _ _ (if1 .left) _ (read .ensures .0) _ _ _ (read .ensures .1) (read .ensures .2) (read .ensures .3) _ (head .given .1) _
+    (c .before .before .put-header .ensures)
 
 same-length-5 : tie.Need-same-length-5
 same-length-5 c = search needs
@@ -50,7 +55,11 @@ same-length-7 : tie.Need-same-length-7
 same-length-7 c = search needs
 
 returns-3 : tie.Need-returns-3
-returns-3 c = read-refused _ _ _ _ _ (c .before .before .before .before .before .before .before .before .before .before .before .before .before .before .if1 .left) _ (c .before .before .before .before .before .before .before .before .before .before .read .ensures .0) _ _ _ (c .before .before .before .before .before .before .before .before .before .before .read .ensures .1) (c .before .before .before .before .before .before .before .before .before .before .read .ensures .2) (c .before .before .before .before .before .before .before .before .before .before .read .ensures .3) _ (c .before .before .why .given .1) _ (c .refusal-word .ensures)
+returns-3 c =
+    let read = c .before .before .before .before .before .before .before .before .before .before .read in
+    let if1 = c .before .before .before .before .before .before .before .before .before .before .before .before .before .before .if1 in
+    read-refused _ _ _ _ _ (if1 .left) _ (read .ensures .0) _ _ _ (read .ensures .1) (read .ensures .2) (read .ensures .3) _
+    (c .before .before .why .given .1) _ (c .refusal-word .ensures)
 
 pub doeragyeol-read-spec : {M : Type 1} → statement M
 doeragyeol-read-spec =

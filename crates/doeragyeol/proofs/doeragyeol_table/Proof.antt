@@ -15,7 +15,9 @@ same-length : tie.Need-same-length
 same-length c = search needs
 
 returns : tie.Need-returns
-returns c = (c .word .ensures ∙ ap wordOf (c .before .before .before .table .ensures .0), c .before .before .before .table .ensures .1)
+returns c =
+    let table = c .before .before .before .table in
+    (c .word .ensures ∙ ap wordOf (table .ensures .0), table .ensures .1)
 
 pub doeragyeol-table-spec : {M : Type 1} → statement M
 doeragyeol-table-spec = tie.close (tie.spec table-requires word-requires same-length returns)

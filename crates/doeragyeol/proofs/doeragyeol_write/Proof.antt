@@ -32,13 +32,20 @@ same-length-2 : tie.Need-same-length-2
 same-length-2 c = search needs
 
 returns-2 : tie.Need-returns-2
-returns-2 c = write-taken _ _ _ (c .before .before .before .before .before .before .before .before .before .before .before .if1 .left) _ (c .before .before .before .before .before .before .before .before .before .write .ensures .0) _ (c .before .before .before .before .before .before .before .before .before .write .ensures .1) _ (c .before .before .before .before .before .bytes .given .1) _ (c .before .before .put-one .ensures)
+returns-2 c =
+    let bytes = c .before .before .before .before .before .bytes in
+    let write = c .before .before .before .before .before .before .before .before .before .write in
+    let if1 = c .before .before .before .before .before .before .before .before .before .before .before .if1 in
+    write-taken _ _ _ (if1 .left) _ (write .ensures .0) _ (write .ensures .1) _ (bytes .given .1) _ (c .before .before .put-one .ensures)
 
 same-length-3 : tie.Need-same-length-3
 same-length-3 c = search needs
 
 returns-3 : tie.Need-returns-3
-returns-3 c = write-refused _ _ _ (c .before .before .before .before .before .before .before .before .if1 .left) _ (c .before .before .before .before .before .before .write .ensures .0) _ (c .before .before .before .before .before .before .write .ensures .1) _ (c .before .before .why .given .1) _ (c .refusal-word .ensures)
+returns-3 c =
+    let write = c .before .before .before .before .before .before .write in
+    let if1 = c .before .before .before .before .before .before .before .before .if1 in
+    write-refused _ _ _ (if1 .left) _ (write .ensures .0) _ (write .ensures .1) _ (c .before .before .why .given .1) _ (c .refusal-word .ensures)
 
 pub doeragyeol-write-spec : {M : Type 1} → statement M
 doeragyeol-write-spec =

@@ -18,7 +18,10 @@ returns-2 c = rw (lt-ltb _ _ (c .before .before .before .if1 .left), ← c .befo
 
 returns-3 : tie.Need-returns-3
 unfolding openBy
-returns-3 c = rw (lt-ltb _ _ (c .before .before .before .before .if1 .left), ← c .before .before .before .entry-at .ensures, ne-eqb _ _ (c .before .if2 .left))
+returns-3 c =
+    let entry-at = c .before .before .before .entry-at in
+    let if1 = c .before .before .before .before .if1 in
+    rw (lt-ltb _ _ (if1 .left), ← entry-at .ensures, ne-eqb _ _ (c .before .if2 .left))
 
 pub is-open-spec : {M : Type 1} → statement M
 is-open-spec = tie.close (tie.spec returns entry-at-requires returns-2 returns-3)

@@ -32,14 +32,18 @@ cast-result-2 : tie.Need-cast-result-2
 cast-result-2 c = omega (arith, trailing-le 64 (c .wide-at .result))
 
 add-result : tie.Need-add-result
-add-result c = omega (arith, trailing-le 64 (c .wide-at .result), lowest-room _ _ (c .before .before .before .before .first-word .ensures) _ (c .before .before .i .given .1))
+add-result c =
+    let first-word = c .before .before .before .before .first-word in
+    omega (arith, trailing-le 64 (c .wide-at .result), lowest-room _ _ (first-word .ensures) _ (c .before .before .i .given .1))
 
 returns : tie.Need-returns
 unfolding lowestIn lowestAt
 returns c = rw (← c .before .before .before .first-word .ensures, c .before .enum-told .given .1) (c .no-node .ensures)
 
 returns-2 : tie.Need-returns-2
-returns-2 c = lowest-found _ _ (c .before .before .before .before .first-word .ensures) _ (c .before .before .i .given .1) _ (c .wide-at .ensures)
+returns-2 c =
+    let first-word = c .before .before .before .before .first-word in
+    lowest-found _ _ (first-word .ensures) _ (c .before .before .i .given .1) _ (c .wide-at .ensures)
 
 pub lowest-of-spec : {M : Type 1} → statement M
 lowest-of-spec =

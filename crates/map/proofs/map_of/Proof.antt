@@ -20,7 +20,10 @@ same-length : tie.Need-same-length
 same-length c = search needs
 
 returns-2 : tie.Need-returns-2
-returns-2 c = long-enough _ _ (c .before .before .before .before .before .before .before .before .if1 .left) _ (c .before .before .before .before .before .before .fill-words .ensures) _ (c .before .before .count-of .ensures) _ (c .lowest-of .ensures)
+returns-2 c =
+    let fill-words = c .before .before .before .before .before .before .fill-words in
+    let if1 = c .before .before .before .before .before .before .before .before .if1 in
+    long-enough _ _ (if1 .left) _ (fill-words .ensures) _ (c .before .before .count-of .ensures) _ (c .lowest-of .ensures)
 
 pub map-of-spec : {M : Type 1} → statement M
 map-of-spec =

@@ -28,7 +28,11 @@ same-length c = search needs
 
 returns : tie.Need-returns
 unfolding netOf
-returns c = map-is _ _ _ (c .before .before .before .before .before .before .before .before .table .ensures .0) (c .before .before .before .before .before .enum-told .given .1) _ (c .before .before .before .before .before .before .before .before .table .ensures .1) _ (c .before .before .map-of .ensures .0) _ (c .before .before .map-of .ensures .1)
+returns c =
+    let map-of = c .before .before .map-of in
+    let enum-told = c .before .before .before .before .before .enum-told in
+    let table = c .before .before .before .before .before .before .before .before .table in
+    map-is _ _ _ (table .ensures .0) (enum-told .given .1) _ (table .ensures .1) _ (map-of .ensures .0) _ (map-of .ensures .1)
 
 returns-2 : tie.Need-returns-2
 returns-2 c = map-not _ _ _ (c .before .before .before .before .table .ensures .0) _ (c .before .said .given .1)

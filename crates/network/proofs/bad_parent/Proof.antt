@@ -36,7 +36,10 @@ is-unfit-requires c κs = search needs
 
 returns-2 : tie.Need-returns-2
 unfolding badParent netOf
-returns-2 c = rw (← c .before .before .before .before .parent-of .ensures, ne-eqb _ _ (c .before .before .before .if1 .left), ← c .before .before .links-in .ensures, ← c .before .link-at .ensures) (c .is-unfit .ensures)
+returns-2 c =
+    let if1 = c .before .before .before .if1 in
+    let parent-of = c .before .before .before .before .parent-of in
+    rw (← parent-of .ensures, ne-eqb _ _ (if1 .left), ← c .before .before .links-in .ensures, ← c .before .link-at .ensures) (c .is-unfit .ensures)
 
 pub bad-parent-spec : {M : Type 1} → statement M
 bad-parent-spec =

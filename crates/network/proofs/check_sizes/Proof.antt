@@ -31,7 +31,10 @@ enum-told-4 c = search needs
 
 returns-2 : tie.Need-returns-2
 unfolding sizeVerdict firstly
-returns-2 c = rw (← c .before .before .before .before .before .check-nodes .ensures, c .before .before .before .enum-told .given .1, ← c .before .before .check-links .ensures, c .enum-told4 .given .1)
+returns-2 c =
+    let enum-told = c .before .before .before .enum-told in
+    let check-nodes = c .before .before .before .before .before .check-nodes in
+    rw (← check-nodes .ensures, enum-told .given .1, ← c .before .before .check-links .ensures, c .enum-told4 .given .1)
 
 check-root-requires : tie.Need-check-root-requires
 check-root-requires c κs = search needs
@@ -44,14 +47,39 @@ enum-told-6 c = search needs
 
 returns-3 : tie.Need-returns-3
 unfolding sizeVerdict firstly
-returns-3 c = rw (← c .before .before .before .before .before .before .before .before .check-nodes .ensures, c .before .before .before .before .before .before .enum-told .given .1, ← c .before .before .before .before .before .check-links .ensures, c .before .before .before .enum-told3 .given .1, ← c .before .before .check-root .ensures, c .enum-told6 .given .1)
+returns-3 c =
+    let enum-told3 = c .before .before .before .enum-told3 in
+    let check-links = c .before .before .before .before .before .check-links in
+    let enum-told = c .before .before .before .before .before .before .enum-told in
+    let check-nodes = c .before .before .before .before .before .before .before .before .check-nodes in
+    rw (
+      ← check-nodes .ensures,
+      enum-told .given .1,
+      ← check-links .ensures,
+      enum-told3 .given .1,
+      ← c .before .before .check-root .ensures,
+      c .enum-told6 .given .1,
+    )
 
 check-depth-requires : tie.Need-check-depth-requires
 check-depth-requires c κs = search needs
 
 returns-4 : tie.Need-returns-4
 unfolding sizeVerdict firstly
-returns-4 c = rw (← c .before .before .before .before .before .before .before .before .before .check-nodes .ensures, c .before .before .before .before .before .before .before .enum-told .given .1, ← c .before .before .before .before .before .before .check-links .ensures, c .before .before .before .before .enum-told3 .given .1, ← c .before .before .before .check-root .ensures, c .before .enum-told5 .given .1) (c .check-depth .ensures ∙ sym (only-one _))
+returns-4 c =
+    let check-root = c .before .before .before .check-root in
+    let enum-told3 = c .before .before .before .before .enum-told3 in
+    let check-links = c .before .before .before .before .before .before .check-links in
+    let enum-told = c .before .before .before .before .before .before .before .enum-told in
+    let check-nodes = c .before .before .before .before .before .before .before .before .before .check-nodes in
+    rw (
+      ← check-nodes .ensures,
+      enum-told .given .1,
+      ← check-links .ensures,
+      enum-told3 .given .1,
+      ← check-root .ensures,
+      c .before .enum-told5 .given .1,
+    ) (c .check-depth .ensures ∙ sym (only-one _))
 
 pub check-sizes-spec : {M : Type 1} → statement M
 check-sizes-spec =

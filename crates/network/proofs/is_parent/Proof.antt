@@ -22,7 +22,9 @@ cast-if1 : tie.Need-cast-if1 Inv-loop μ-loop
 cast-if1 c = search needs
 
 returns : tie.Need-returns Inv-loop μ-loop
-returns c = named _ _ _ (c .before .before .before .loop .inv) (c .before .before .loop-test .taken) _ (c .before .parent-of .ensures) (c .if1 .taken)
+returns c =
+    let loop = c .before .before .before .loop in
+    named _ _ _ (loop .inv) (c .before .before .loop-test .taken) _ (c .before .parent-of .ensures) (c .if1 .taken)
 
 add-u : tie.Need-add-u Inv-loop μ-loop
 add-u c = search needs
@@ -31,7 +33,9 @@ loop-less : tie.Need-loop-less Inv-loop μ-loop
 loop-less c = search needs
 
 loop-again : tie.Need-loop-again Inv-loop μ-loop
-loop-again c = unnamed-more _ _ _ (c .before .before .before .loop .inv) (c .before .before .loop-test .taken) _ (c .before .parent-of .ensures) (c .if1 .left)
+loop-again c =
+    let loop = c .before .before .before .loop in
+    unnamed-more _ _ _ (loop .inv) (c .before .before .loop-test .taken) _ (c .before .parent-of .ensures) (c .if1 .left)
 
 returns-2 : tie.Need-returns-2 Inv-loop μ-loop
 returns-2 c = unnamed-end _ _ _ (c .before .loop .inv) (c .loop-test .left)

@@ -21,7 +21,9 @@ touches-requires c κs = search needs
 
 returns-3 : tie.Need-returns-3
 unfolding unfit
-returns-3 c = rw (lt-leb _ _ (c .before .before .before .if1 .left), ← c .before .before .in-service .ensures, c .before .if2 .left, ← c .touches .ensures)
+returns-3 c =
+    let if1 = c .before .before .before .if1 in
+    rw (lt-leb _ _ (if1 .left), ← c .before .before .in-service .ensures, c .before .if2 .left, ← c .touches .ensures)
 
 pub is-unfit-spec : {M : Type 1} → statement M
 is-unfit-spec =

@@ -20,7 +20,10 @@ same-length : tie.Need-same-length
 same-length c = search needs
 
 returns : tie.Need-returns
-returns c = put-held _ _ _ _ (c .before .before .before .before .before .room-for .ensures) (c .before .before .before .before .if1 .taken) _ (c .before .before .copy .ensures)
+returns c =
+    let if1 = c .before .before .before .before .if1 in
+    let room-for = c .before .before .before .before .before .room-for in
+    put-held _ _ _ _ (room-for .ensures) (if1 .taken) _ (c .before .before .copy .ensures)
 
 write-all-requires : tie.Need-write-all-requires
 write-all-requires c κs = search needs

@@ -21,7 +21,10 @@ same-length c = search needs
 
 returns : tie.Need-returns
 unfolding hexOf
-returns c = rw (c .before .before .before .before .before .digit2 .ensures, c .before .before .before .before .before .before .digit .ensures) at (c .before .before .put .ensures)
+returns c =
+    let digit2 = c .before .before .before .before .before .digit2 in
+    let digit = c .before .before .before .before .before .before .digit in
+    rw (digit2 .ensures, digit .ensures) at (c .before .before .put .ensures)
 
 pub put-hex-spec : {M : Type 1} → statement M
 put-hex-spec =

@@ -19,7 +19,9 @@ same-length : tie.Need-same-length
 same-length c = search needs
 
 returns : tie.Need-returns
-returns c = record { count = c .before .before .before .before .before .decimal .result; fewest = c .before .before .before .before .before .decimal .ensures .1 .0; holds = rw (c .before .before .before .before .before .decimal .ensures .1 .1) at (c .before .before .put .ensures) }
+returns c =
+    let decimal = c .before .before .before .before .before .decimal in
+    record { count = decimal .result; fewest = decimal .ensures .1 .0; holds = rw (decimal .ensures .1 .1) at (c .before .before .put .ensures) }
 
 pub put-number-spec : {M : Type 1} → statement M
 put-number-spec =

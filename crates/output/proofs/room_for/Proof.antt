@@ -16,7 +16,9 @@ flush-requires : tie.Need-flush-requires
 flush-requires c κs = search needs
 
 returns-2 : tie.Need-returns-2
-returns-2 c = ⊎-elim (λ w. place-begins _ _ _ _ (omega arith) (c .flush .ensures)) (λ w. place-begins _ _ _ _ (omega arith) (c .flush .ensures)) (c .before .if1 .came)
+returns-2 c =
+    ⊎-elim (λ w. place-begins _ _ _ _ (omega arith) (c .flush .ensures)) (λ w. place-begins _ _ _ _ (omega arith) (c .flush .ensures))
+    (c .before .if1 .came)
 
 pub room-for-spec : {M : Type 1} → statement M
 room-for-spec = tie.close (tie.spec sub-if2 returns flush-requires returns-2)

@@ -28,14 +28,20 @@ cast-put-four-4 : tie.Need-cast-put-four-4
 cast-put-four-4 c = search needs
 
 put-four-requires : tie.Need-put-four-requires
-put-four-requires c κs = with-room _ _ _ _ (c .before .before .before .before .before .before .has-room .ensures) (not-false _ (c .before .before .before .before .before .if1 .left))
+put-four-requires c κs =
+    let if1 = c .before .before .before .before .before .if1 in
+    let has-room = c .before .before .before .before .before .before .has-room in
+    with-room _ _ _ _ (has-room .ensures) (not-false _ (if1 .left))
 
 same-length-2 : tie.Need-same-length-2
 same-length-2 c = search needs
 
 returns-2 : tie.Need-returns-2
 unfolding linkRecord
-returns-2 c = put-is _ _ _ _ _ (c .before .before .before .before .before .before .before .before .before .has-room .ensures) (not-false _ (c .before .before .before .before .before .before .before .before .if1 .left)) _ (c .before .before .put-four .ensures)
+returns-2 c =
+    let if1 = c .before .before .before .before .before .before .before .before .if1 in
+    let has-room = c .before .before .before .before .before .before .before .before .before .has-room in
+    put-is _ _ _ _ _ (has-room .ensures) (not-false _ (if1 .left)) _ (c .before .before .put-four .ensures)
 
 pub put-link-spec : {M : Type 1} → statement M
 put-link-spec =

@@ -7,7 +7,8 @@ use Rattle.series.proofs.series.Statement.{statement}
 use Rattle.series.proofs.series.Tie as tie
 
 abbrev Inv-loop : tie.InvT-loop
-Inv-loop raw from count links₀ parents search entries₀ at₀ left₀ links entries at left = (length links ≡ length links₀) × (length entries ≡ length entries₀) × (2 * (at + 3 * left) ≤ length raw)
+Inv-loop raw from count links₀ parents search entries₀ at₀ left₀ links entries at left =
+    (length links ≡ length links₀) × (length entries ≡ length entries₀) × (2 * (at + 3 * left) ≤ length raw)
 
 abbrev μ-loop : tie.MeasureT-loop
 μ-loop raw from count links₀ parents search entries₀ at₀ left₀ links entries at left = left

@@ -29,7 +29,11 @@ keeps-short-requires c κs = search needs
 
 returns-2 : tie.Need-returns-2
 unfolding breaksBy
-returns-2 c = rw (← c .before .before .before .before .before .before .in-service .ensures, not-false (c .before .before .before .before .before .before .in-service .result) (c .before .before .before .before .before .if1 .left), ← c .before .before .before .wide-at .ensures, ← c .before .wide-at2 .ensures, ← c .keeps-short .ensures)
+returns-2 c =
+    let wide-at = c .before .before .before .wide-at in
+    let if1 = c .before .before .before .before .before .if1 in
+    let in-service = c .before .before .before .before .before .before .in-service in
+    rw (← in-service .ensures, not-false (in-service .result) (if1 .left), ← wide-at .ensures, ← c .before .wide-at2 .ensures, ← c .keeps-short .ensures)
 
 pub breaks-by-spec : {M : Type 1} → statement M
 breaks-by-spec =

@@ -33,7 +33,10 @@ enum-told-4 c = search needs
 
 returns-2 : tie.Need-returns-2
 unfolding recordVerdict firstly netOf
-returns-2 c = rw (← c .before .before .before .before .before .check-ends .ensures, c .before .before .before .enum-told .given .1, ← c .before .before .check-marks .ensures, c .enum-told4 .given .1)
+returns-2 c =
+    let enum-told = c .before .before .before .enum-told in
+    let check-ends = c .before .before .before .before .before .check-ends in
+    rw (← check-ends .ensures, enum-told .given .1, ← c .before .before .check-marks .ensures, c .enum-told4 .given .1)
 
 check-parents-requires : tie.Need-check-parents-requires
 check-parents-requires c κs = search needs
@@ -46,7 +49,19 @@ enum-told-6 c = search needs
 
 returns-3 : tie.Need-returns-3
 unfolding recordVerdict firstly netOf
-returns-3 c = rw (← c .before .before .before .before .before .before .before .before .check-ends .ensures, c .before .before .before .before .before .before .enum-told .given .1, ← c .before .before .before .before .before .check-marks .ensures, c .before .before .before .enum-told3 .given .1, ← c .before .before .check-parents .ensures, c .enum-told6 .given .1)
+returns-3 c =
+    let enum-told3 = c .before .before .before .enum-told3 in
+    let check-marks = c .before .before .before .before .before .check-marks in
+    let enum-told = c .before .before .before .before .before .before .enum-told in
+    let check-ends = c .before .before .before .before .before .before .before .before .check-ends in
+    rw (
+      ← check-ends .ensures,
+      enum-told .given .1,
+      ← check-marks .ensures,
+      enum-told3 .given .1,
+      ← c .before .before .check-parents .ensures,
+      c .enum-told6 .given .1,
+    )
 
 check-routes-requires : tie.Need-check-routes-requires
 check-routes-requires c κs = search needs
@@ -59,14 +74,54 @@ enum-told-8 c = search needs
 
 returns-4 : tie.Need-returns-4
 unfolding recordVerdict firstly netOf
-returns-4 c = rw (← c .before .before .before .before .before .before .before .before .before .before .before .check-ends .ensures, c .before .before .before .before .before .before .before .before .before .enum-told .given .1, ← c .before .before .before .before .before .before .before .before .check-marks .ensures, c .before .before .before .before .before .before .enum-told3 .given .1, ← c .before .before .before .before .before .check-parents .ensures, c .before .before .before .enum-told5 .given .1, ← c .before .before .check-routes .ensures, c .enum-told8 .given .1)
+returns-4 c =
+    let enum-told5 = c .before .before .before .enum-told5 in
+    let check-parents = c .before .before .before .before .before .check-parents in
+    let enum-told3 = c .before .before .before .before .before .before .enum-told3 in
+    let check-marks = c .before .before .before .before .before .before .before .before .check-marks in
+    let enum-told = c .before .before .before .before .before .before .before .before .before .enum-told in
+    let check-ends = c .before .before .before .before .before .before .before .before .before .before .before .check-ends in
+    rw (
+      ← check-ends .ensures,
+      enum-told .given .1,
+      ← check-marks .ensures,
+      enum-told3 .given .1,
+      ← check-parents .ensures,
+      enum-told5 .given .1,
+      ←
+          c .before .before .check-routes .ensures,
+      c .enum-told8 .given .1,
+    )
 
 check-short-requires : tie.Need-check-short-requires
-check-short-requires c κs = (c .before .before .before .before .before .before .before .before .before .before .before .before .before .before .pre, ends-known (c .before .before .before .before .before .before .before .before .before .before .before .before .before .before .args .links .now) (c .before .before .before .before .before .before .before .before .before .before .before .before .before .before .args .parents .now) (c .before .before .before .before .before .before .before .before .before .before .before .before .before .before .args .search) _ (c .before .before .before .before .before .before .before .before .before .before .before .check-ends .ensures) (c .before .before .before .before .before .before .before .before .before .enum-told .given .1))
+check-short-requires c κs =
+    let enum-told = c .before .before .before .before .before .before .before .before .before .enum-told in
+    let check-ends = c .before .before .before .before .before .before .before .before .before .before .before .check-ends in
+    let args = c .before .before .before .before .before .before .before .before .before .before .before .before .before .before .args in
+    let pre = c .before .before .before .before .before .before .before .before .before .before .before .before .before .before .pre in
+    (pre, ends-known (args .links .now) (args .parents .now) (args .search) _ (check-ends .ensures) (enum-told .given .1))
 
 returns-5 : tie.Need-returns-5
 unfolding recordVerdict firstly netOf
-returns-5 c = rw (← c .before .before .before .before .before .before .before .before .before .before .before .before .check-ends .ensures, c .before .before .before .before .before .before .before .before .before .before .enum-told .given .1, ← c .before .before .before .before .before .before .before .before .before .check-marks .ensures, c .before .before .before .before .before .before .before .enum-told3 .given .1, ← c .before .before .before .before .before .before .check-parents .ensures, c .before .before .before .before .enum-told5 .given .1, ← c .before .before .before .check-routes .ensures, c .before .enum-told7 .given .1) (c .check-short .ensures ∙ sym (only-one _))
+returns-5 c =
+    let check-routes = c .before .before .before .check-routes in
+    let enum-told5 = c .before .before .before .before .enum-told5 in
+    let check-parents = c .before .before .before .before .before .before .check-parents in
+    let enum-told3 = c .before .before .before .before .before .before .before .enum-told3 in
+    let check-marks = c .before .before .before .before .before .before .before .before .before .check-marks in
+    let enum-told = c .before .before .before .before .before .before .before .before .before .before .enum-told in
+    let check-ends = c .before .before .before .before .before .before .before .before .before .before .before .before .check-ends in
+    rw (
+      ← check-ends .ensures,
+      enum-told .given .1,
+      ← check-marks .ensures,
+      enum-told3 .given .1,
+      ← check-parents .ensures,
+      enum-told5 .given .1,
+      ←
+          check-routes .ensures,
+      c .before .enum-told7 .given .1,
+    ) (c .check-short .ensures ∙ sym (only-one _))
 
 pub check-records-spec : {M : Type 1} → statement M
 check-records-spec =

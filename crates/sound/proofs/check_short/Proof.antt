@@ -24,7 +24,11 @@ refused-at-requires c κs = search needs
 
 returns : tie.Need-returns
 unfolding refuseAt
-returns c = c .refused-at .ensures ∙ ap (refusedAt NotShort) (c .before .first-breaking .ensures ∙ first-breaking-is _ _ _ (c .before .before .before .before .before .before .before .before .pre .1) _ _ (filled-row _ _ _ _ _ (c .before .before .before .before .before .before .before .before .pre .0) refl (c .before .before .before .before .distances .ensures .1)))
+returns c =
+    let distances = c .before .before .before .before .distances in
+    let pre = c .before .before .before .before .before .before .before .before .pre in
+    c .refused-at .ensures ∙ ap (refusedAt NotShort) (c .before .first-breaking .ensures ∙ first-breaking-is _ _ _ (pre .1) _ _
+    (filled-row _ _ _ _ _ (pre .0) refl (distances .ensures .1)))
 
 pub check-short-spec : {M : Type 1} → statement M
 check-short-spec =

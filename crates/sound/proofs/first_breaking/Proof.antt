@@ -37,7 +37,12 @@ loop-less : tie.Need-loop-less Inv-loop μ-loop
 loop-less c = search needs
 
 loop-again : tie.Need-loop-again Inv-loop μ-loop
-loop-again c = seek-more _ _ _ _ (c .before .before .before .before .loop .inv) (omega (arith, c .before .before .before .loop-test .taken, c .before .before .before .before .before .links-in .ensures)) _ (c .before .breaks-by .ensures ∙ ap (breaksBy _) (c .before .before .link-at .ensures)) _ (c .or-here .ensures)
+loop-again c =
+    let loop-test = c .before .before .before .loop-test in
+    let loop = c .before .before .before .before .loop in
+    let links-in = c .before .before .before .before .before .links-in in
+    seek-more _ _ _ _ (loop .inv) (omega (arith, loop-test .taken, links-in .ensures)) _
+    (c .before .breaks-by .ensures ∙ ap (breaksBy _) (c .before .before .link-at .ensures)) _ (c .or-here .ensures)
 
 returns : tie.Need-returns Inv-loop μ-loop
 returns c = seek-done _ _ _ _ (c .before .loop .inv) (omega (arith, c .loop-test .left, c .before .before .links-in .ensures))

@@ -26,14 +26,24 @@ enum-told-2 c = search needs
 
 returns : tie.Need-returns
 unfolding netVerdict firstly netOf
-returns c = rw (← c .before .before .before .before .limits .ensures, ← c .before .before .before .links-in .ensures, ← c .before .before .check-sizes .ensures, c .enum-told2 .given .1)
+returns c =
+    let links-in = c .before .before .before .links-in in
+    let limits = c .before .before .before .before .limits in
+    rw (← limits .ensures, ← links-in .ensures, ← c .before .before .check-sizes .ensures, c .enum-told2 .given .1)
 
 check-records-requires : tie.Need-check-records-requires
-check-records-requires c κs = sizes-nodes _ _ _ _ _ (c .before .before .before .before .limits .ensures) (c .before .before .check-sizes .ensures) (c .enum-told .given .1)
+check-records-requires c κs =
+    let limits = c .before .before .before .before .limits in
+    sizes-nodes _ _ _ _ _ (limits .ensures) (c .before .before .check-sizes .ensures) (c .enum-told .given .1)
 
 returns-2 : tie.Need-returns-2
 unfolding netVerdict netOf
-returns-2 c = c .check-records .ensures ∙ sym (head-passes _ _ (rw (← c .before .before .before .before .before .limits .ensures, ← c .before .before .before .before .links-in .ensures) (sym (c .before .before .before .check-sizes .ensures) ∙ c .before .enum-told .given .1)) ∙ only-one _)
+returns-2 c =
+    let check-sizes = c .before .before .before .check-sizes in
+    let links-in = c .before .before .before .before .links-in in
+    let limits = c .before .before .before .before .before .limits in
+    c .check-records .ensures ∙ sym (head-passes _ _ (rw (← limits .ensures, ← links-in .ensures)
+    (sym (check-sizes .ensures) ∙ c .before .enum-told .given .1)) ∙ only-one _)
 
 pub verdict-spec : {M : Type 1} → statement M
 verdict-spec =

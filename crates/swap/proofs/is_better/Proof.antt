@@ -10,7 +10,9 @@ returns c = rw (lt-ltb _ _ (c .if1 .taken))
 
 returns-2 : tie.Need-returns-2
 unfolding better
-returns-2 c = rw (le-ltb _ _ (c .before .before .before .before .before .if1 .left), eq-eqb _ _ (c .before .before .if2 .taken))
+returns-2 c =
+    let if1 = c .before .before .before .before .before .if1 in
+    rw (le-ltb _ _ (if1 .left), eq-eqb _ _ (c .before .before .if2 .taken))
 
 returns-3 : tie.Need-returns-3
 unfolding better

@@ -14,11 +14,15 @@ is-better-requires c κs = search needs
 
 returns-2 : tie.Need-returns-2
 unfolding kept
-returns-2 c = rw (not-false (c .before .before .before .args .had) (c .before .before .if1 .left), ← c .before .is-better .ensures, c .if2 .taken)
+returns-2 c =
+    let args = c .before .before .before .args in
+    rw (not-false (args .had) (c .before .before .if1 .left), ← c .before .is-better .ensures, c .if2 .taken)
 
 returns-3 : tie.Need-returns-3
 unfolding kept
-returns-3 c = rw (not-false (c .before .before .before .args .had) (c .before .before .if1 .left), ← c .before .is-better .ensures, c .if2 .left)
+returns-3 c =
+    let args = c .before .before .before .args in
+    rw (not-false (args .had) (c .before .before .if1 .left), ← c .before .is-better .ensures, c .if2 .left)
 
 pub keep-spec : {M : Type 1} → statement M
 keep-spec = tie.close (tie.spec returns is-better-requires returns-2 returns-3)

@@ -6,7 +6,9 @@ use Rattle.swap.proofs.with_crossing.Tie as tie
 
 returns : tie.Need-returns
 unfolding offered
-returns c = rw (eq-eqb _ _ (c .if1 .taken)) (λ i. record { state = c .if1 .taken i; sum = c .before .before .args .old .sum; incr = c .before .before .args .old .incr; max = c .before .before .args .old .max })
+returns c =
+    let args = c .before .before .args in
+    rw (eq-eqb _ _ (c .if1 .taken)) (λ i. record { state = c .if1 .taken i; sum = args .old .sum; incr = args .old .incr; max = args .old .max })
 
 returns-2 : tie.Need-returns-2
 unfolding offered

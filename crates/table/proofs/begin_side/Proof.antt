@@ -15,10 +15,18 @@ wide-at-requires-2 : tie.Need-wide-at-requires-2
 wide-at-requires-2 c κs = search needs
 
 sub-t10 : tie.Need-sub-t10
-sub-t10 c = rw (c .before .wide-at .ensures, c .wide-at2 .ensures) (begin-less _ _ _ (c .before .before .before .before .before .before .before .pre .0) (λ i. omega (arith, c .before .before .before .before .before .before .shared-slice-known .given i)) _ (c .before .before .before .before .before .before .before .pre .1) _ (c .before .before .before .before .before .before .before .pre .2) _ (c .before .before .before .before .before .before .before .pre .3))
+sub-t10 c =
+    let shared-slice-known = c .before .before .before .before .before .before .shared-slice-known in
+    let pre = c .before .before .before .before .before .before .before .pre in
+    rw (c .before .wide-at .ensures, c .wide-at2 .ensures)
+    (begin-less _ _ _ (pre .0) (λ i. omega (arith, shared-slice-known .given i)) _ (pre .1) _ (pre .2) _ (pre .3))
 
 returns : tie.Need-returns
-returns c = begin-carries _ _ _ (c .before .before .before .before .before .before .before .pre .0) (λ i. omega (arith, c .before .before .before .before .before .before .shared-slice-known .given i)) _ (c .before .before .before .before .before .before .before .pre .1) _ (c .before .before .before .before .before .before .before .pre .2) _ (c .before .before .before .before .before .before .before .pre .3) _ _ _ (c .before .before .begin .ensures) (c .before .wide-at .ensures) (c .wide-at2 .ensures)
+returns c =
+    let shared-slice-known = c .before .before .before .before .before .before .shared-slice-known in
+    let pre = c .before .before .before .before .before .before .before .pre in
+    begin-carries _ _ _ (pre .0) (λ i. omega (arith, shared-slice-known .given i)) _ (pre .1) _ (pre .2) _ (pre .3) _ _ _
+    (c .before .before .begin .ensures) (c .before .wide-at .ensures) (c .wide-at2 .ensures)
 
 pub begin-side-spec : {M : Type 1} → statement M
 begin-side-spec =

@@ -20,7 +20,11 @@ same-length : tie.Need-same-length
 same-length c = search needs
 
 returns-2 : tie.Need-returns-2
-returns-2 c = rw (is-marked _ _ _ (c .before .before .before .before .before .before .wide-at .ensures) (c .before .before .before .before .before .if1 .left), ← c .before .before .before .first-entry .ensures) (c .before .before .put-entry .ensures)
+returns-2 c =
+    let first-entry = c .before .before .before .first-entry in
+    let if1 = c .before .before .before .before .before .if1 in
+    let wide-at = c .before .before .before .before .before .before .wide-at in
+    rw (is-marked _ _ _ (wide-at .ensures) (if1 .left), ← first-entry .ensures) (c .before .before .put-entry .ensures)
 
 pub clear-at-spec : {M : Type 1} → statement M
 clear-at-spec =

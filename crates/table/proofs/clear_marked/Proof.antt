@@ -10,7 +10,8 @@ use Rattle.table.proofs.clear_marked.Statement.{statement}
 use Rattle.table.proofs.clear_marked.Tie as tie
 
 abbrev Inv-loop : tie.InvT-loop
-Inv-loop parents search marks entries₀ x₀ entries x = Entries (length parents) (upToNode x (startAt (search .root) marks entries₀) (standing entries₀)) entries₀ entries
+Inv-loop parents search marks entries₀ x₀ entries x =
+    Entries (length parents) (upToNode x (startAt (search .root) marks entries₀) (standing entries₀)) entries₀ entries
 
 abbrev μ-loop : tie.MeasureT-loop
 μ-loop parents search marks entries₀ x₀ entries x = length parents - x
@@ -28,7 +29,11 @@ loop-less : tie.Need-loop-less Inv-loop μ-loop
 loop-less c = omega (arith, c .before .before .before .before .loop-test .taken)
 
 loop-again : tie.Need-loop-again Inv-loop μ-loop
-loop-again c = clear-more _ _ _ _ _ (c .before .before .before .before .loop-test .taken) (c .before .before .before .before .before .before .before .before .before .pre) _ (c .before .before .before .before .before .loop .inv) _ (c .before .before .clear-at .ensures)
+loop-again c =
+    let loop-test = c .before .before .before .before .loop-test in
+    let loop = c .before .before .before .before .before .loop in
+    let pre = c .before .before .before .before .before .before .before .before .before .pre in
+    clear-more _ _ _ _ _ (loop-test .taken) (pre) _ (loop .inv) _ (c .before .before .clear-at .ensures)
 
 same-length : tie.Need-same-length Inv-loop μ-loop
 same-length c = c .before .loop .inv .size

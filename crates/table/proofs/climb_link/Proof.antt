@@ -5,7 +5,8 @@ use native.Mathlib.Omega.{arith}
 use borrow.Author.Needs.{needs}
 use Rattle.network.specs.Network.{netOf}
 use Rattle.tree.proofs.InRows.{treeIn}
-use Rattle.table.proofs.Linking.{Between, Turn, left, between-start, between-turn, counted, first-next, second-next, carrying, from-low, crossing, not-top, between-less, between-more, between-end}
+use Rattle.table.proofs.Linking.{Between, Turn, left, between-start, between-turn, counted, first-next, second-next, carrying, from-low}
+use Rattle.table.proofs.Linking.{crossing, not-top, between-less, between-more, between-end}
 use Rattle.table.proofs.climb_link.Statement.{statement}
 use Rattle.table.proofs.climb_link.Tie as tie
 
@@ -44,7 +45,8 @@ turn-at : (c : tie.Joined2 Inv-loop μ-loop) →
     let args = c .before .before .before .before .before .before .before .before .before .before .before .before .before .before .before .before .args in
     let net = netOf (args .links .now) (args .parents .now) (args .search) in
     let loop = c .before .before .before .before .before .before .loop in
-    Turn net (length (args .parents .now)) (args .marks .now) (args .e) (args .k) (args .entries .now) (c .if2 .a) (c .if2 .b) (loop .entries) (left (treeIn (args .links .now) (args .parents .now) (args .search)) (loop .a) (loop .b))
+    Turn net (length (args .parents .now)) (args .marks .now) (args .e) (args .k) (args .entries .now) (c .if2 .a) (c .if2 .b) (loop .entries)
+    (left (treeIn (args .links .now) (args .parents .now) (args .search)) (loop .a) (loop .b))
 turn-at c =
     let pre = c .before .before .before .before .before .before .before .before .before .before .before .before .before .before .before .before .pre in
     let inv = c .before .before .before .before .before .before .loop .inv in
@@ -83,7 +85,9 @@ same-length : tie.Need-same-length Inv-loop μ-loop
 same-length c = c .before .before .before .loop .inv .size
 
 returns : tie.Need-returns Inv-loop μ-loop
-returns c = between-end (c .before .before .before .loop .inv) (c .before .before .node-of .ensures) (c .before .node-of2 .ensures) (c .if1 .left)
+returns c =
+    let loop = c .before .before .before .loop in
+    between-end (loop .inv) (c .before .before .node-of .ensures) (c .before .node-of2 .ensures) (c .if1 .left)
 
 pub climb-link-spec : {M : Type 1} → statement M
 climb-link-spec =

@@ -13,7 +13,11 @@ enum-told c = search needs
 
 search-one-requires : tie.Need-search-one-requires
 unfolding netOf
-search-one-requires c κs = (one-sound _ _ _ (c .before .before .check-entry .ensures) (c .enum-told .given .1), one-node _ _ _ (c .before .before .check-entry .ensures) (c .enum-told .given .1))
+search-one-requires c κs = (
+  one-sound _ _ _ (c .before .before .check-entry .ensures) (c .enum-told .given .1),
+  one-node _ _ _ (c .before .before .check-entry .ensures)
+      (c .enum-told .given .1),
+)
 
 enum-known-said : tie.Need-enum-known-said
 enum-known-said c = search needs

@@ -19,19 +19,35 @@ slice-aggregate-pass : tie.Need-slice-aggregate-pass
 slice-aggregate-pass c = search needs
 
 pass-requires : tie.Need-pass-requires
-pass-requires c κs = (c .before .before .before .before .before .before .before .before .before .pre .0, c .before .before .before .before .before .before .before .before .before .pre .1, omega (arith, small _ _ _ (c .before .before .before .before .before .before .before .before .before .pre .0) (λ i. omega (arith, c .before .before .before .before .before .before .before .before .shared-slice-known .given i)), c .before .before .before .distances .kept .1 .1 .1 .0), c .before .before .before .before .before .before .before .before .before .pre .2 .room)
+pass-requires c κs =
+    let distances = c .before .before .before .distances in
+    let shared-slice-known = c .before .before .before .before .before .before .before .before .shared-slice-known in
+    let pre = c .before .before .before .before .before .before .before .before .before .pre in
+    (pre .0, pre .1, omega (arith, small _ _ _ (pre .0) (λ i. omega (arith, shared-slice-known .given i)), distances .kept .1 .1 .1 .0), pre .2 .room)
 
 slice-aggregate-pass-2 : tie.Need-slice-aggregate-pass-2
 slice-aggregate-pass-2 c = search needs
 
 pass-requires-2 : tie.Need-pass-requires-2
-pass-requires-2 c κs = (c .before .before .before .before .before .before .before .before .before .before .before .before .before .before .before .pre .0, c .before .before .before .before .before .before .before .before .before .before .before .before .before .before .before .pre .1, omega (arith, small _ _ _ (c .before .before .before .before .before .before .before .before .before .before .before .before .before .before .before .pre .0) (λ i. omega (arith, c .before .before .before .before .before .before .before .before .before .before .before .before .before .before .shared-slice-known .given i))), omega (arith, c .before .before .before .before .before .before .before .before .before .before .before .before .before .before .before .pre .2 .room, c .before .before .before .before .before .pass .ensures .size))
+pass-requires-2 c κs =
+    let pass = c .before .before .before .before .before .pass in
+    let shared-slice-known = c .before .before .before .before .before .before .before .before .before .before .before .before .before .before .shared-slice-known in
+    let pre = c .before .before .before .before .before .before .before .before .before .before .before .before .before .before .before .pre in
+    (pre .0, pre .1, omega (arith, small _ _ _ (pre .0) (λ i. omega (arith, shared-slice-known .given i))), omega (arith, pre .2 .room, pass .ensures .size))
 
 same-length : tie.Need-same-length
 same-length c = search needs
 
 returns : tie.Need-returns
-returns c = asides-are _ _ _ (c .before .before .before .before .before .before .before .before .before .before .before .before .before .before .before .before .before .before .before .pre .0) _ _ _ _ _ _ (first-row _ _ _ (c .before .before .before .before .before .before .before .before .before .before .before .before .before .before .before .before .before .before .before .pre .0) _ _ refl (c .before .before .before .before .before .before .before .before .before .before .before .before .before .distances .ensures .1)) (λ x l. getD-replicate nodeLimit x 0 0 (omega (arith, small _ _ _ (c .before .before .before .before .before .before .before .before .before .before .before .before .before .before .before .before .before .before .before .pre .0) (λ i. omega (arith, c .before .before .before .before .before .before .before .before .before .before .before .before .before .before .before .before .before .before .shared-slice-known .given i))))) (c .before .before .before .before .before .before .before .before .before .before .before .before .before .before .before .before .before .before .before .pre .2) (c .before .before .before .before .before .before .before .before .before .pass .ensures) (c .before .before .before .pass2 .ensures)
+returns c =
+    let pass2 = c .before .before .before .pass2 in
+    let pass = c .before .before .before .before .before .before .before .before .before .pass in
+    let distances = c .before .before .before .before .before .before .before .before .before .before .before .before .before .distances in
+    let shared-slice-known = c .before .before .before .before .before .before .before .before .before .before .before .before .before .before .before .before .before .before .shared-slice-known in
+    let pre = c .before .before .before .before .before .before .before .before .before .before .before .before .before .before .before .before .before .before .before .pre in
+    asides-are _ _ _ (pre .0) _ _ _ _ _ _ (first-row _ _ _ (pre .0) _ _ refl (distances .ensures .1))
+    (λ x l. getD-replicate nodeLimit x 0 0 (omega (arith, small _ _ _ (pre .0) (λ i. omega (arith, shared-slice-known .given i))))) (pre .2)
+    (pass .ensures) (pass2 .ensures)
 
 pub fill-asides-spec : {M : Type 1} → statement M
 fill-asides-spec =

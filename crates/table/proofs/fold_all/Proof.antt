@@ -9,13 +9,16 @@ use Rattle.table.proofs.fold_all.Statement.{statement}
 use Rattle.table.proofs.fold_all.Tie as tie
 
 abbrev Inv-loop : tie.InvT-loop
-Inv-loop links parents search near count₀ weight₀ deep₀ u₀ count weight deep u = Tally (treeIn links parents search) (length parents) count₀ weight₀ deep₀ u count weight deep
+Inv-loop links parents search near count₀ weight₀ deep₀ u₀ count weight deep u =
+    Tally (treeIn links parents search) (length parents) count₀ weight₀ deep₀ u count weight deep
 
 abbrev μ-loop : tie.MeasureT-loop
 μ-loop links parents search near count₀ weight₀ deep₀ u₀ count weight deep u = length parents - u
 
 loop-holds : tie.Need-loop-holds Inv-loop μ-loop
-loop-holds c = tally-start _ _ _ _ _ (c .before .before .before .before .before .before .pre .2)
+loop-holds c =
+    let pre = c .before .before .before .before .before .before .pre in
+    tally-start _ _ _ _ _ (pre .2)
 
 mul-fold-up : tie.Need-mul-fold-up Inv-loop μ-loop
 mul-fold-up c = search needs
@@ -24,16 +27,31 @@ shared-slice-read-fold-up : tie.Need-shared-slice-read-fold-up Inv-loop μ-loop
 shared-slice-read-fold-up c = search needs
 
 fold-up-requires : tie.Need-fold-up-requires Inv-loop μ-loop
-fold-up-requires c κs = (c .before .before .before .before .before .before .before .before .before .before .before .before .pre .0, can-fold _ _ _ (c .before .before .before .before .before .before .before .before .before .before .before .before .pre .0) (λ i. omega (arith, c .before .before .before .before .before .before .before .before .before .before .before .shared-slice-known .given i)) _ (c .before .before .before .before .before .before .before .before .before .before .before .before .pre .1) _ _ _ _ (c .before .before .before .before .before .loop .inv .is) (c .before .before .before .before .loop-test .taken))
+fold-up-requires c κs =
+    let loop-test = c .before .before .before .before .loop-test in
+    let loop = c .before .before .before .before .before .loop in
+    let shared-slice-known = c .before .before .before .before .before .before .before .before .before .before .before .shared-slice-known in
+    let pre = c .before .before .before .before .before .before .before .before .before .before .before .before .pre in
+    (pre .0, can-fold _ _ _ (pre .0) (λ i. omega (arith, shared-slice-known .given i)) _ (pre .1) _ _ _ _ (loop .inv .is) (loop-test .taken))
 
 add-u : tie.Need-add-u Inv-loop μ-loop
 add-u c = search needs
 
 loop-less : tie.Need-loop-less Inv-loop μ-loop
-loop-less c = omega (arith, c .before .before .before .before .before .before .before .before .before .before .before .loop-test .taken)
+loop-less c =
+    let loop-test = c .before .before .before .before .before .before .before .before .before .before .before .loop-test in
+    omega (arith, loop-test .taken)
 
 loop-again : tie.Need-loop-again Inv-loop μ-loop
-loop-again c = tally-more _ _ _ _ _ _ _ _ _ _ _ _ _ (c .before .before .before .before .before .before .before .before .before .before .before .before .loop .inv) (c .before .before .before .before .before .before .before .before .before .before .before .loop-test .taken) (c .before .before .before .before .before .before .fold-up .ensures) (counted-more _ _ _ (c .before .before .before .before .before .before .before .before .before .before .before .before .before .before .before .before .before .before .before .pre .0) (λ i. omega (arith, c .before .before .before .before .before .before .before .before .before .before .before .before .before .before .before .before .before .before .shared-slice-known .given i)) _ (c .before .before .before .before .before .before .before .before .before .before .before .before .before .before .before .before .before .before .before .pre .1) _ _ _ _ (c .before .before .before .before .before .before .before .before .before .before .before .before .loop .inv .is) (c .before .before .before .before .before .before .before .before .before .before .before .loop-test .taken) _ _ _ (c .before .before .before .before .before .before .fold-up .ensures))
+loop-again c =
+    let fold-up = c .before .before .before .before .before .before .fold-up in
+    let loop-test = c .before .before .before .before .before .before .before .before .before .before .before .loop-test in
+    let loop = c .before .before .before .before .before .before .before .before .before .before .before .before .loop in
+    let shared-slice-known = c .before .before .before .before .before .before .before .before .before .before .before .before .before .before .before .before .before .before .shared-slice-known in
+    let pre = c .before .before .before .before .before .before .before .before .before .before .before .before .before .before .before .before .before .before .before .pre in
+    tally-more _ _ _ _ _ _ _ _ _ _ _ _ _ (loop .inv) (loop-test .taken) (fold-up .ensures)
+    (counted-more _ _ _ (pre .0) (λ i. omega (arith, shared-slice-known .given i)) _ (pre .1) _ _ _ _ (loop .inv .is) (loop-test .taken) _ _ _
+    (fold-up .ensures))
 
 same-length : tie.Need-same-length Inv-loop μ-loop
 same-length c = c .before .loop .inv .counts-size

@@ -31,7 +31,18 @@ same-length : tie.Need-same-length
 same-length c = search needs
 
 returns-2 : tie.Need-returns-2
-returns-2 c = offered-one _ _ _ _ _ (c .before .before .before .before .before .before .before .before .before .before .before .before .before .before .before .before .before .before .before .before .pre .2) (x-low _ _ _ (c .before .before .before .before .before .before .before .before .before .before .before .before .before .before .before .before .before .before .before .before .pre .0) (λ i. omega (arith, c .before .before .before .before .before .before .before .before .before .before .before .before .before .before .before .before .before .before .before .shared-slice-known .given i)) _ _ _ _ (c .before .before .before .before .before .before .before .before .before .before .before .before .before .before .before .before .before .before .before .before .pre .1) _ (c .before .before .before .before .before .before .before .before .before .before .before .before .before .before .before .before .before .before .before .before .pre .2) (c .before .before .before .before .before .before .before .before .before .before .before .before .before .before .before .before .before .before .before .before .pre .3) _ _ (c .before .before .before .before .before .before .before .before .before .before .before .before .before .before .before .before .before .before .before .before .pre .4)) _ _ (c .before .before .before .before .before .before .before .before .before .before .before .before .before .before .before .before .before .before .before .before .pre .4) (c .before .before .before .before .before .before .before .before .before .before .before .before .before .before .before .before .before .before .before .before .pre .5) _ (c .before .before .before .before .before .before .before .before .before .before .wide-at .ensures) (c .before .before .before .before .before .before .before .before .before .if1 .left) _ _ (c .before .before .before .before .before .before .before .before .before .before .before .before .before .before .before .before .before .before .before .before .pre .6) _ _ _ _ (c .before .before .before .before .before .entry-at .ensures) (c .before .before .before .before .before .before .before .is-within .ensures) (c .before .before .before .before .before .before .before .before .costs-of .ensures) (c .before .before .before .before .with-link .ensures) (c .before .before .put-entry .ensures)
+returns-2 c =
+    let with-link = c .before .before .before .before .with-link in
+    let entry-at = c .before .before .before .before .before .entry-at in
+    let is-within = c .before .before .before .before .before .before .before .is-within in
+    let costs-of = c .before .before .before .before .before .before .before .before .costs-of in
+    let if1 = c .before .before .before .before .before .before .before .before .before .if1 in
+    let wide-at = c .before .before .before .before .before .before .before .before .before .before .wide-at in
+    let shared-slice-known = c .before .before .before .before .before .before .before .before .before .before .before .before .before .before .before .before .before .before .before .shared-slice-known in
+    let pre = c .before .before .before .before .before .before .before .before .before .before .before .before .before .before .before .before .before .before .before .before .pre in
+    offered-one _ _ _ _ _ (pre .2) (x-low _ _ _ (pre .0) (λ i. omega (arith, shared-slice-known .given i)) _ _ _ _ (pre .1) _ (pre .2) (pre .3) _ _
+    (pre .4)) _ _ (pre .4) (pre .5) _ (wide-at .ensures) (if1 .left) _ _ (pre .6) _ _ _ _ (entry-at .ensures) (is-within .ensures) (costs-of .ensures)
+    (with-link .ensures) (c .before .before .put-entry .ensures)
 
 pub offer-at-spec : {M : Type 1} → statement M
 offer-at-spec =

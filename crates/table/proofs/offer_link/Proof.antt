@@ -14,7 +14,9 @@ in-service-requires : tie.Need-in-service-requires
 in-service-requires c κs = search needs
 
 returns : tie.Need-returns
-returns c = skip-idle _ _ _ (c .before .before .before .before .before .before .before .before .before .before .before .before .before .pre .0) _ (c .before .before .before .before .before .before .before .before .before .before .before .before .before .pre .5) _ (c .before .before .link-at .ensures) _ _ _ _ (c .before .in-service .ensures) (not-true _ (c .if1 .taken))
+returns c =
+    let pre = c .before .before .before .before .before .before .before .before .before .before .before .before .before .pre in
+    skip-idle _ _ _ (pre .0) _ (pre .5) _ (c .before .before .link-at .ensures) _ _ _ _ (c .before .in-service .ensures) (not-true _ (c .if1 .taken))
 
 cast-p : tie.Need-cast-p
 cast-p c = search needs
@@ -29,7 +31,10 @@ cast-if2 : tie.Need-cast-if2
 cast-if2 c = search needs
 
 returns-2 : tie.Need-returns-2
-returns-2 c = skip-first _ _ _ (c .before .before .before .before .before .before .before .before .before .before .before .before .before .before .before .before .before .pre .0) _ (c .before .before .before .before .before .before .before .before .before .before .before .before .before .before .before .before .before .pre .5) _ (c .before .before .before .before .before .before .link-at .ensures) _ _ _ _ (c .before .parent-of .ensures) (c .if2 .taken)
+returns-2 c =
+    let link-at = c .before .before .before .before .before .before .link-at in
+    let pre = c .before .before .before .before .before .before .before .before .before .before .before .before .before .before .before .before .before .pre in
+    skip-first _ _ _ (pre .0) _ (pre .5) _ (link-at .ensures) _ _ _ _ (c .before .parent-of .ensures) (c .if2 .taken)
 
 parent-of-requires-2 : tie.Need-parent-of-requires-2
 parent-of-requires-2 c κs = search needs
@@ -38,7 +43,10 @@ cast-if3 : tie.Need-cast-if3
 cast-if3 c = search needs
 
 returns-3 : tie.Need-returns-3
-returns-3 c = skip-second _ _ _ (c .before .before .before .before .before .before .before .before .before .before .before .before .before .before .before .before .before .before .before .pre .0) _ (c .before .before .before .before .before .before .before .before .before .before .before .before .before .before .before .before .before .before .before .pre .5) _ (c .before .before .before .before .before .before .before .before .link-at .ensures) _ _ _ _ (c .before .parent-of2 .ensures) (c .if3 .taken)
+returns-3 c =
+    let link-at = c .before .before .before .before .before .before .before .before .link-at in
+    let pre = c .before .before .before .before .before .before .before .before .before .before .before .before .before .before .before .before .before .before .before .pre in
+    skip-second _ _ _ (pre .0) _ (pre .5) _ (link-at .ensures) _ _ _ _ (c .before .parent-of2 .ensures) (c .if3 .taken)
 
 wide-at-requires : tie.Need-wide-at-requires
 wide-at-requires c κs = search needs
@@ -47,22 +55,66 @@ cast-k : tie.Need-cast-k
 cast-k c = search needs
 
 add-k : tie.Need-add-k
-add-k c = record { fits = omega (arith, k-fits _ _ _ (c .before .before .before .before .before .before .before .before .before .before .before .before .before .before .before .before .before .before .before .before .before .pre .0) _ (c .before .before .before .before .before .before .before .before .before .before .before .before .before .before .before .before .before .before .before .before .before .pre .5) _ (c .before .before .before .before .before .before .before .before .before .before .link-at .ensures) _ (c .before .before .before .before .before .before .before .before .before .before .before .before .before .before .before .before .before .before .before .before .before .pre .1 .nears) (λ i. omega (arith, c .before .before .before .before .before .before .before .before .before .before .before .before .before .before .before .before .before .before .before .before .shared-slice-known .given i)) _ _ (c .before .wide-at .ensures) refl) }
+add-k c =
+    let link-at = c .before .before .before .before .before .before .before .before .before .before .link-at in
+    let shared-slice-known = c .before .before .before .before .before .before .before .before .before .before .before .before .before .before .before .before .before .before .before .before .shared-slice-known in
+    let pre = c .before .before .before .before .before .before .before .before .before .before .before .before .before .before .before .before .before .before .before .before .before .pre in
+    record {
+      fits = omega (
+        arith,
+        k-fits _ _ _ (pre .0) _ (pre .5) _ (link-at .ensures) _ (pre .1 .nears)
+            (λ i. omega (arith, shared-slice-known .given i)) _ _ (c .before .wide-at .ensures) refl,
+      );
+    }
 
 wide-at-requires-2 : tie.Need-wide-at-requires-2
 wide-at-requires-2 c κs = search needs
 
 add-k-2 : tie.Need-add-k-2
-add-k-2 c = record { fits = k-fits _ _ _ (c .before .before .before .before .before .before .before .before .before .before .before .before .before .before .before .before .before .before .before .before .before .before .pre .0) _ (c .before .before .before .before .before .before .before .before .before .before .before .before .before .before .before .before .before .before .before .before .before .before .pre .5) _ (c .before .before .before .before .before .before .before .before .before .before .before .link-at .ensures) _ (c .before .before .before .before .before .before .before .before .before .before .before .before .before .before .before .before .before .before .before .before .before .before .pre .1 .nears) (λ i. omega (arith, c .before .before .before .before .before .before .before .before .before .before .before .before .before .before .before .before .before .before .before .before .before .shared-slice-known .given i)) _ _ (c .before .before .wide-at .ensures) (c .wide-at2 .ensures) }
+add-k-2 c =
+    let link-at = c .before .before .before .before .before .before .before .before .before .before .before .link-at in
+    let shared-slice-known = c .before .before .before .before .before .before .before .before .before .before .before .before .before .before .before .before .before .before .before .before .before .shared-slice-known in
+    let pre = c .before .before .before .before .before .before .before .before .before .before .before .before .before .before .before .before .before .before .before .before .before .before .pre in
+    record {
+      fits = k-fits _ _ _ (pre .0) _ (pre .5) _ (link-at .ensures) _ (pre .1 .nears) (λ i. omega (arith, shared-slice-known .given i)) _ _
+          (c .before .before .wide-at .ensures) (c .wide-at2 .ensures);
+    }
 
 begin-side-requires : tie.Need-begin-side-requires
-begin-side-requires c κs = (c .before .before .before .before .before .before .before .before .before .before .before .before .before .before .before .before .before .before .before .before .before .before .pre .0, c .before .before .before .before .before .before .before .before .before .before .before .before .before .before .before .before .before .before .before .before .before .before .pre .1 .nears, c .before .before .before .before .before .before .before .before .before .before .before .before .before .before .before .before .before .before .before .before .before .before .pre .3, first-node _ _ _ (c .before .before .before .before .before .before .before .before .before .before .before .before .before .before .before .before .before .before .before .before .before .before .pre .0) _ (c .before .before .before .before .before .before .before .before .before .before .before .before .before .before .before .before .before .before .before .before .before .before .pre .5) _ (c .before .before .before .before .before .before .before .before .before .before .before .link-at .ensures))
+begin-side-requires c κs =
+    let link-at = c .before .before .before .before .before .before .before .before .before .before .before .link-at in
+    let pre = c .before .before .before .before .before .before .before .before .before .before .before .before .before .before .before .before .before .before .before .before .before .before .pre in
+    (pre .0, pre .1 .nears, pre .3, first-node _ _ _ (pre .0) _ (pre .5) _ (link-at .ensures))
 
 begin-side-requires-2 : tie.Need-begin-side-requires-2
-begin-side-requires-2 c κs = (c .before .before .before .before .before .before .before .before .before .before .before .before .before .before .before .before .before .before .before .before .before .before .before .pre .0, c .before .before .before .before .before .before .before .before .before .before .before .before .before .before .before .before .before .before .before .before .before .before .before .pre .1 .nears, c .before .before .before .before .before .before .before .before .before .before .before .before .before .before .before .before .before .before .before .before .before .before .before .pre .3, second-node _ _ _ (c .before .before .before .before .before .before .before .before .before .before .before .before .before .before .before .before .before .before .before .before .before .before .before .pre .0) _ (c .before .before .before .before .before .before .before .before .before .before .before .before .before .before .before .before .before .before .before .before .before .before .before .pre .5) _ (c .before .before .before .before .before .before .before .before .before .before .before .before .link-at .ensures))
+begin-side-requires-2 c κs =
+    let link-at = c .before .before .before .before .before .before .before .before .before .before .before .before .link-at in
+    let pre = c .before .before .before .before .before .before .before .before .before .before .before .before .before .before .before .before .before .before .before .before .before .before .before .pre in
+    (pre .0, pre .1 .nears, pre .3, second-node _ _ _ (pre .0) _ (pre .5) _ (link-at .ensures))
 
 climb-link-requires : tie.Need-climb-link-requires
-climb-link-requires c κs = (c .before .before .before .before .before .before .before .before .before .before .before .before .before .before .before .before .before .before .before .before .before .before .before .before .before .pre .0, c .before .before .before .before .before .before .before .before .before .before .before .before .before .before .before .before .before .before .before .before .before .before .before .before .before .pre .1, c .before .before .before .before .before .before .before .before .before .before .before .before .before .before .before .before .before .before .before .before .before .before .before .before .before .pre .2, spare _ _ _ (c .before .before .before .before .before .before .before .before .before .before .before .before .before .before .before .before .before .before .before .before .before .before .before .before .before .pre .0) _ (c .before .before .before .before .before .before .before .before .before .before .before .before .before .before .before .before .before .before .before .before .before .before .before .before .before .pre .5) _ (c .before .before .before .before .before .before .before .before .before .before .before .before .before .before .link-at .ensures) _ (c .before .before .before .before .before .before .before .before .before .before .before .before .before .before .before .before .before .before .before .before .before .before .before .before .before .pre .1 .nears) (λ i. omega (arith, c .before .before .before .before .before .before .before .before .before .before .before .before .before .before .before .before .before .before .before .before .before .before .before .before .shared-slice-known .given i)) _ _ (c .before .before .before .before .before .wide-at .ensures) (c .before .before .before .wide-at2 .ensures) _ (c .before .before .before .before .before .before .before .before .before .before .before .before .before .in-service .ensures) (not-false _ (c .before .before .before .before .before .before .before .before .before .before .before .before .if1 .left)) _ (c .before .before .before .before .before .before .before .before .before .parent-of .ensures) (c .before .before .before .before .before .before .before .before .if2 .left) _ (c .before .before .before .before .before .before .before .parent-of2 .ensures) (c .before .before .before .before .before .before .if3 .left), starting _ _ _ (c .before .before .before .before .before .before .before .before .before .before .before .before .before .before .before .before .before .before .before .before .before .before .before .before .before .pre .0) _ (c .before .before .before .before .before .before .before .before .before .before .before .before .before .before .before .before .before .before .before .before .before .before .before .before .before .pre .5) _ (c .before .before .before .before .before .before .before .before .before .before .before .before .before .before .link-at .ensures) _ _ (c .before .before .begin-side .ensures) (c .before .begin-side2 .ensures), c .before .before .before .before .before .before .before .before .before .before .before .before .before .before .before .before .before .before .before .before .before .before .before .before .before .pre .4)
+climb-link-requires c κs =
+    let wide-at2 = c .before .before .before .wide-at2 in
+    let wide-at = c .before .before .before .before .before .wide-at in
+    let if3 = c .before .before .before .before .before .before .if3 in
+    let parent-of2 = c .before .before .before .before .before .before .before .parent-of2 in
+    let if2 = c .before .before .before .before .before .before .before .before .if2 in
+    let parent-of = c .before .before .before .before .before .before .before .before .before .parent-of in
+    let if1 = c .before .before .before .before .before .before .before .before .before .before .before .before .if1 in
+    let in-service = c .before .before .before .before .before .before .before .before .before .before .before .before .before .in-service in
+    let link-at = c .before .before .before .before .before .before .before .before .before .before .before .before .before .before .link-at in
+    let shared-slice-known = c .before .before .before .before .before .before .before .before .before .before .before .before .before .before .before .before .before .before .before .before .before .before .before .before .shared-slice-known in
+    let pre = c .before .before .before .before .before .before .before .before .before .before .before .before .before .before .before .before .before .before .before .before .before .before .before .before .before .pre in (
+      pre .0,
+      pre .1,
+      pre .2,
+      spare _ _ _ (pre .0) _ (pre .5) _ (link-at .ensures) _ (pre .1 .nears) (λ i. omega (arith, shared-slice-known .given i))
+          _ _ (wide-at .ensures) (wide-at2 .ensures) _ (in-service .ensures) (not-false _ (if1 .left)) _ (parent-of .ensures) (if2 .left) _
+          (parent-of2 .ensures) (if3 .left),
+      starting _ _ _ (pre .0) _ (pre .5) _ (link-at .ensures) _ _ (c .before .before .begin-side .ensures)
+          (c .before .begin-side2 .ensures),
+      pre .4,
+    )
 
 same-length : tie.Need-same-length
 same-length c = search needs

@@ -10,7 +10,8 @@ use Rattle.table.proofs.offer_links.Statement.{statement}
 use Rattle.table.proofs.offer_links.Tie as tie
 
 abbrev Inv-loop : tie.InvT-loop
-Inv-loop links parents search near count deep bases turns asides marks entries₀ m e₀ entries e = LinkedTo (netOf links parents search) (length parents) marks e entries₀ entries × (e ≤ linksIn links)
+Inv-loop links parents search near count deep bases turns asides marks entries₀ m e₀ entries e =
+    LinkedTo (netOf links parents search) (length parents) marks e entries₀ entries × (e ≤ linksIn links)
 
 abbrev μ-loop : tie.MeasureT-loop
 μ-loop links parents search near count deep bases turns asides marks entries₀ m e₀ entries e = linksIn links - e
@@ -22,16 +23,36 @@ loop-holds : tie.Need-loop-holds Inv-loop μ-loop
 loop-holds c = (to-none _ _ _ _, omega arith)
 
 offer-link-requires : tie.Need-offer-link-requires Inv-loop μ-loop
-offer-link-requires c κs = (c .before .before .before .before .before .before .before .before .before .before .before .before .before .before .pre .0, c .before .before .before .before .before .before .before .before .before .before .before .before .before .before .pre .1, c .before .before .before .before .before .before .before .before .before .before .before .before .before .before .pre .2, c .before .before .before .before .before .before .before .before .before .before .before .before .before .before .pre .3, omega (arith, c .before .before .before .before .before .before .before .before .before .before .before .before .before .before .pre .4, c .before .before .loop .inv .0 .size), omega (arith, c .before .loop-test .taken, c .before .before .before .links-in .ensures))
+offer-link-requires c κs =
+    let links-in = c .before .before .before .links-in in
+    let pre = c .before .before .before .before .before .before .before .before .before .before .before .before .before .before .pre in (
+      pre .0,
+      pre .1,
+      pre .2,
+      pre .3,
+      omega (arith, pre .4, c .before .before .loop .inv .0 .size),
+      omega
+          (arith, c .before .loop-test .taken, links-in .ensures),
+    )
 
 add-e : tie.Need-add-e Inv-loop μ-loop
 add-e c = omega (arith, c .before .before .before .before .loop-test .taken)
 
 loop-less : tie.Need-loop-less Inv-loop μ-loop
-loop-less c = omega (arith, c .before .before .before .before .loop-test .taken, c .before .before .before .before .before .before .links-in .ensures)
+loop-less c =
+    let loop-test = c .before .before .before .before .loop-test in
+    let links-in = c .before .before .before .before .before .before .links-in in
+    omega (arith, loop-test .taken, links-in .ensures)
 
 loop-again : tie.Need-loop-again Inv-loop μ-loop
-loop-again c = (to-more _ _ _ _ _ _ _ (c .before .before .before .before .before .loop .inv .0) (c .before .entries .given) (c .before .before .offer-link .ensures), omega (arith, c .before .before .before .before .loop-test .taken, c .before .before .before .before .before .before .links-in .ensures))
+loop-again c =
+    let loop-test = c .before .before .before .before .loop-test in
+    let loop = c .before .before .before .before .before .loop in
+    let links-in = c .before .before .before .before .before .before .links-in in (
+      to-more _ _ _ _ _ _ _ (loop .inv .0) (c .before .entries .given) (c .before .before .offer-link .ensures),
+      omega
+          (arith, loop-test .taken, links-in .ensures),
+    )
 
 same-length : tie.Need-same-length Inv-loop μ-loop
 same-length c = c .before .loop .inv .0 .size

@@ -21,16 +21,34 @@ place-requires : tie.Need-place-requires Inv-loop μ-loop
 place-requires c κs = search needs
 
 raise-at-requires : tie.Need-raise-at-requires Inv-loop μ-loop
-raise-at-requires c κs = (c .before .before .before .before .before .before .before .before .before .before .pre .0, c .before .before .before .before .before .before .before .before .before .before .pre .1, omega (arith, c .before .before .before .before .loop .inv .most-size, c .before .before .before .before .before .before .before .before .before .before .pre .2), omega (arith, c .before .before .before .before .loop .inv .out-size, c .before .before .before .before .before .before .before .before .before .before .pre .3), rw (c .before .before .place .ensures) (placed-in _ _ _ (c .before .before .before .loop-test .taken)))
+raise-at-requires c κs =
+    let loop-test = c .before .before .before .loop-test in
+    let loop = c .before .before .before .before .loop in
+    let pre = c .before .before .before .before .before .before .before .before .before .before .pre in (
+      pre .0,
+      pre .1,
+      omega (arith, loop .inv .most-size, pre .2),
+      omega (arith, loop .inv .out-size, pre .3),
+      rw (c .before .before .place .ensures)
+          (placed-in _ _ _ (loop-test .taken)),
+    )
 
 add-j : tie.Need-add-j Inv-loop μ-loop
 add-j c = search needs
 
 loop-less : tie.Need-loop-less Inv-loop μ-loop
-loop-less c = omega (arith, c .before .before .before .before .before .before .before .before .loop-test .taken)
+loop-less c =
+    let loop-test = c .before .before .before .before .before .before .before .before .loop-test in
+    omega (arith, loop-test .taken)
 
 loop-again : tie.Need-loop-again Inv-loop μ-loop
-loop-again c = passing-more _ _ _ _ _ (up-low _ _ _ (c .before .before .before .before .before .before .before .before .before .before .before .before .before .before .before .pre .0)) _ _ _ _ _ (c .before .before .before .before .before .before .before .before .before .loop .inv) (c .before .before .before .before .before .before .before .before .loop-test .taken) _ (c .before .before .before .before .before .before .before .place .ensures) (c .before .before .before .before .raise-at .ensures)
+loop-again c =
+    let raise-at = c .before .before .before .before .raise-at in
+    let place = c .before .before .before .before .before .before .before .place in
+    let loop-test = c .before .before .before .before .before .before .before .before .loop-test in
+    let loop = c .before .before .before .before .before .before .before .before .before .loop in
+    let pre = c .before .before .before .before .before .before .before .before .before .before .before .before .before .before .before .pre in
+    passing-more _ _ _ _ _ (up-low _ _ _ (pre .0)) _ _ _ _ _ (loop .inv) (loop-test .taken) _ (place .ensures) (raise-at .ensures)
 
 same-length : tie.Need-same-length Inv-loop μ-loop
 same-length c = c .before .loop .inv .most-size

@@ -23,14 +23,20 @@ returns c = fresh-refused _ _ _ _ _ (c .before .before .check-table .ensures) (c
 
 search-marked-requires : tie.Need-search-marked-requires
 unfolding netOf
-search-marked-requires c κs = (table-sound _ _ _ (c .before .before .before .check-table .ensures) (c .before .enum-told .given .1), table-room _ _ _ (c .before .before .before .check-table .ensures) (c .before .enum-told .given .1))
+search-marked-requires c κs =
+    let enum-told = c .before .enum-told in
+    let check-table = c .before .before .before .check-table in
+    (table-sound _ _ _ (check-table .ensures) (enum-told .given .1), table-room _ _ _ (check-table .ensures) (enum-told .given .1))
 
 same-length-2 : tie.Need-same-length-2
 same-length-2 c = search needs
 
 returns-2 : tie.Need-returns-2
 unfolding netOf
-returns-2 c = fresh-taken _ _ _ _ (c .before .before .before .before .before .before .check-table .ensures) (c .before .before .before .before .enum-told .given .1) _ (c .before .before .search-marked .ensures)
+returns-2 c =
+    let enum-told = c .before .before .before .before .enum-told in
+    let check-table = c .before .before .before .before .before .before .check-table in
+    fresh-taken _ _ _ _ (check-table .ensures) (enum-told .given .1) _ (c .before .before .search-marked .ensures)
 
 pub refresh-spec : {M : Type 1} → statement M
 refresh-spec =

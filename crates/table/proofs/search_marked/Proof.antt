@@ -24,7 +24,10 @@ slice-aggregate-fold-all-4 : tie.Need-slice-aggregate-fold-all-4
 slice-aggregate-fold-all-4 c = search needs
 
 fold-all-requires : tie.Need-fold-all-requires
-fold-all-requires c κs = (c .before .before .before .before .before .before .before .before .before .before .before .pre .0, nears _ _ _ (c .before .before .before .before .before .before .before .before .before .before .before .pre .0) _ (c .before .before .before .before .before .distances .ensures .1), none-counted _ _ _ (c .before .before .before .before .before .before .before .before .before .before .before .pre .0))
+fold-all-requires c κs =
+    let distances = c .before .before .before .before .before .distances in
+    let pre = c .before .before .before .before .before .before .before .before .before .before .before .pre in
+    (pre .0, nears _ _ _ (pre .0) _ (distances .ensures .1), none-counted _ _ _ (pre .0))
 
 slice-aggregate-fill-bases : tie.Need-slice-aggregate-fill-bases
 slice-aggregate-fill-bases c = search needs
@@ -42,7 +45,18 @@ slice-aggregate-fill-bases-5 : tie.Need-slice-aggregate-fill-bases-5
 slice-aggregate-fill-bases-5 c = search needs
 
 fill-bases-requires : tie.Need-fill-bases-requires
-fill-bases-requires c κs = (c .before .before .before .before .before .before .before .before .before .before .before .before .before .before .before .before .before .before .before .before .pre .0, nears _ _ _ (c .before .before .before .before .before .before .before .before .before .before .before .before .before .before .before .before .before .before .before .before .pre .0) _ (c .before .before .before .before .before .before .before .before .before .before .before .before .before .before .distances .ensures .1), counts-all _ _ _ (c .before .before .before .before .before .before .before .before .before .before .before .before .before .before .before .before .before .before .before .before .pre .0) _ _ _ (c .before .before .before .before .before .before .before .before .fold-all .ensures), weights-all _ _ _ (c .before .before .before .before .before .before .before .before .before .before .before .before .before .before .before .before .before .before .before .before .pre .0) _ _ _ (c .before .before .before .before .before .before .before .before .fold-all .ensures), room-for _ _ _ (c .before .before .before .before .before .before .before .before .before .before .before .before .before .before .before .before .before .before .before .before .pre .0), room-for _ _ _ (c .before .before .before .before .before .before .before .before .before .before .before .before .before .before .before .before .before .before .before .before .pre .0))
+fill-bases-requires c κs =
+    let fold-all = c .before .before .before .before .before .before .before .before .fold-all in
+    let distances = c .before .before .before .before .before .before .before .before .before .before .before .before .before .before .distances in
+    let pre = c .before .before .before .before .before .before .before .before .before .before .before .before .before .before .before .before .before .before .before .before .pre in (
+      pre .0,
+      nears _ _ _ (pre .0) _ (distances .ensures .1),
+      counts-all _ _ _ (pre .0) _ _ _ (fold-all .ensures),
+      weights-all _ _ _ (pre .0) _ _ _
+          (fold-all .ensures),
+      room-for _ _ _ (pre .0),
+      room-for _ _ _ (pre .0),
+    )
 
 slice-aggregate-fill-asides : tie.Need-slice-aggregate-fill-asides
 slice-aggregate-fill-asides c = search needs
@@ -51,10 +65,15 @@ slice-aggregate-fill-asides-2 : tie.Need-slice-aggregate-fill-asides-2
 slice-aggregate-fill-asides-2 c = search needs
 
 fill-asides-requires : tie.Need-fill-asides-requires
-fill-asides-requires c κs = (c .before .before .before .before .before .before .before .before .before .before .before .before .before .before .before .before .before .before .before .before .before .before .before .before .before .pre .0, deeps-all _ _ _ (c .before .before .before .before .before .before .before .before .before .before .before .before .before .before .before .before .before .before .before .before .before .before .before .before .before .pre .0) _ _ _ (c .before .before .before .before .before .before .before .before .before .before .before .before .before .fold-all .ensures), zeros _ _ _ (c .before .before .before .before .before .before .before .before .before .before .before .before .before .before .before .before .before .before .before .before .before .before .before .before .before .pre .0))
+fill-asides-requires c κs =
+    let fold-all = c .before .before .before .before .before .before .before .before .before .before .before .before .before .fold-all in
+    let pre = c .before .before .before .before .before .before .before .before .before .before .before .before .before .before .before .before .before .before .before .before .before .before .before .before .before .pre in
+    (pre .0, deeps-all _ _ _ (pre .0) _ _ _ (fold-all .ensures), zeros _ _ _ (pre .0))
 
 clear-marked-requires : tie.Need-clear-marked-requires
-clear-marked-requires c κs = c .before .before .before .before .before .before .before .before .before .before .before .before .before .before .before .before .before .before .before .before .before .before .before .before .before .before .before .before .pre .1
+clear-marked-requires c κs =
+    let pre = c .before .before .before .before .before .before .before .before .before .before .before .before .before .before .before .before .before .before .before .before .before .before .before .before .before .before .before .before .pre in
+    pre .1
 
 slice-aggregate-offer-links : tie.Need-slice-aggregate-offer-links
 slice-aggregate-offer-links c = search needs
@@ -75,13 +94,35 @@ slice-aggregate-offer-links-6 : tie.Need-slice-aggregate-offer-links-6
 slice-aggregate-offer-links-6 c = search needs
 
 offer-links-requires : tie.Need-offer-links-requires
-offer-links-requires c κs = (c .before .before .before .before .before .before .before .before .before .before .before .before .before .before .before .before .before .before .before .before .before .before .before .before .before .before .before .before .before .before .before .before .before .before .before .before .before .before .pre .0, record { nears = nears _ _ _ (c .before .before .before .before .before .before .before .before .before .before .before .before .before .before .before .before .before .before .before .before .before .before .before .before .before .before .before .before .before .before .before .before .before .before .before .before .before .before .pre .0) _ (c .before .before .before .before .before .before .before .before .before .before .before .before .before .before .before .before .before .before .before .before .before .before .before .before .before .before .before .before .before .before .before .before .distances .ensures .1); counts = counts-all _ _ _ (c .before .before .before .before .before .before .before .before .before .before .before .before .before .before .before .before .before .before .before .before .before .before .before .before .before .before .before .before .before .before .before .before .before .before .before .before .before .before .pre .0) _ _ _ (c .before .before .before .before .before .before .before .before .before .before .before .before .before .before .before .before .before .before .before .before .before .before .before .before .before .before .fold-all .ensures); bases-are = holds-row _ _ _ _ (c .before .before .before .before .before .before .before .before .before .before .before .before .before .before .before .before .before .fill-bases .ensures .0) (room-for _ _ _ (c .before .before .before .before .before .before .before .before .before .before .before .before .before .before .before .before .before .before .before .before .before .before .before .before .before .before .before .before .before .before .before .before .before .before .before .before .before .before .pre .0)); turns-are = holds-row _ _ _ _ (c .before .before .before .before .before .before .before .before .before .before .before .before .before .before .before .before .before .fill-bases .ensures .1) (room-for _ _ _ (c .before .before .before .before .before .before .before .before .before .before .before .before .before .before .before .before .before .before .before .before .before .before .before .before .before .before .before .before .before .before .before .before .before .before .before .before .before .before .pre .0)) }, c .before .before .before .before .before .before .before .before .before .before .before .before .fill-asides .ensures, deeps-all _ _ _ (c .before .before .before .before .before .before .before .before .before .before .before .before .before .before .before .before .before .before .before .before .before .before .before .before .before .before .before .before .before .before .before .before .before .before .before .before .before .before .pre .0) _ _ _ (c .before .before .before .before .before .before .before .before .before .before .before .before .before .before .before .before .before .before .before .before .before .before .before .before .before .before .fold-all .ensures), omega (arith, c .before .before .before .before .before .before .before .before .before .before .before .before .before .before .before .before .before .before .before .before .before .before .before .before .before .before .before .before .before .before .before .before .before .before .before .before .before .before .pre .1, c .before .before .before .before .before .before .before .before .before .clear-marked .ensures .size))
+offer-links-requires c κs =
+    let clear-marked = c .before .before .before .before .before .before .before .before .before .clear-marked in
+    let fill-asides = c .before .before .before .before .before .before .before .before .before .before .before .before .fill-asides in
+    let fill-bases = c .before .before .before .before .before .before .before .before .before .before .before .before .before .before .before .before .before .fill-bases in
+    let fold-all = c .before .before .before .before .before .before .before .before .before .before .before .before .before .before .before .before .before .before .before .before .before .before .before .before .before .before .fold-all in
+    let distances = c .before .before .before .before .before .before .before .before .before .before .before .before .before .before .before .before .before .before .before .before .before .before .before .before .before .before .before .before .before .before .before .before .distances in
+    let pre = c .before .before .before .before .before .before .before .before .before .before .before .before .before .before .before .before .before .before .before .before .before .before .before .before .before .before .before .before .before .before .before .before .before .before .before .before .before .before .pre in (
+      pre .0,
+      record {
+        nears = nears _ _ _ (pre .0) _ (distances .ensures .1);
+        counts = counts-all _ _ _ (pre .0) _ _ _ (fold-all .ensures);
+        bases-are = holds-row _ _ _ _ (fill-bases .ensures .0) (room-for _ _ _ (pre .0));
+        turns-are = holds-row _ _ _ _ (fill-bases .ensures .1)
+            (room-for _ _ _ (pre .0));
+      },
+      fill-asides .ensures,
+      deeps-all _ _ _ (pre .0) _ _ _ (fold-all .ensures),
+      omega
+          (arith, pre .1, clear-marked .ensures .size),
+    )
 
 same-length : tie.Need-same-length
 same-length c = search needs
 
 returns : tie.Need-returns
-returns c = fresh-end _ _ _ (c .before .before .before .before .before .before .before .before .before .before .before .before .before .before .before .before .before .before .before .before .before .before .before .before .before .before .before .before .before .before .before .before .before .before .before .before .before .before .before .before .before .pre .0) _ _ _ _ (c .before .before .before .before .before .before .before .before .before .before .before .before .clear-marked .ensures) (c .before .before .offer-links .ensures)
+returns c =
+    let clear-marked = c .before .before .before .before .before .before .before .before .before .before .before .before .clear-marked in
+    let pre = c .before .before .before .before .before .before .before .before .before .before .before .before .before .before .before .before .before .before .before .before .before .before .before .before .before .before .before .before .before .before .before .before .before .before .before .before .before .before .before .before .before .pre in
+    fresh-end _ _ _ (pre .0) _ _ _ _ (clear-marked .ensures) (c .before .before .offer-links .ensures)
 
 pub search-marked-spec : {M : Type 1} → statement M
 search-marked-spec =

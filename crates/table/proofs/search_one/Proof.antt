@@ -11,7 +11,8 @@ mul-marks : tie.Need-mul-marks
 mul-marks c = omega (arith, c .before .before .pre .1, small _ _ _ (c .before .before .pre .0) (λ i. omega (arith, c .before .shared-slice-known .given i)))
 
 array-write-marks : tie.Need-array-write-marks
-array-write-marks c = omega (arith, c .before .before .pre .1, small _ _ _ (c .before .before .pre .0) (λ i. omega (arith, c .before .shared-slice-known .given i)))
+array-write-marks c =
+    omega (arith, c .before .before .pre .1, small _ _ _ (c .before .before .pre .0) (λ i. omega (arith, c .before .shared-slice-known .given i)))
 
 slice-aggregate-search-marked : tie.Need-slice-aggregate-search-marked
 slice-aggregate-search-marked c = search needs
@@ -20,7 +21,10 @@ slice-aggregate-search-marked-2 : tie.Need-slice-aggregate-search-marked-2
 slice-aggregate-search-marked-2 c = search needs
 
 search-marked-requires : tie.Need-search-marked-requires
-search-marked-requires c κs = (c .before .before .before .before .pre .0, bare-room _ (small _ _ _ (c .before .before .before .before .pre .0) (λ i. omega (arith, c .before .before .before .shared-slice-known .given i))))
+search-marked-requires c κs =
+    let shared-slice-known = c .before .before .before .shared-slice-known in
+    let pre = c .before .before .before .before .pre in
+    (pre .0, bare-room _ (small _ _ _ (pre .0) (λ i. omega (arith, shared-slice-known .given i))))
 
 slice-aggregate-entry-at : tie.Need-slice-aggregate-entry-at
 slice-aggregate-entry-at c = search needs
@@ -30,7 +34,10 @@ entry-at-requires c κs = search needs
 
 returns : tie.Need-returns
 unfolding netOf
-returns c = one-known _ _ (c .before .before .before .before .before .before .before .before .pre .1) (c .before .before .before .before .before .before .before .before .pre .0) _ (c .before .before .before .search-marked .ensures) _ (c .entry-at .ensures)
+returns c =
+    let search-marked = c .before .before .before .search-marked in
+    let pre = c .before .before .before .before .before .before .before .before .pre in
+    one-known _ _ (pre .1) (pre .0) _ (search-marked .ensures) _ (c .entry-at .ensures)
 
 pub search-one-spec : {M : Type 1} → statement M
 search-one-spec =

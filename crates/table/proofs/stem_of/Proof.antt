@@ -18,7 +18,10 @@ abbrev μ-loop : tie.MeasureT-loop
 μ-loop links parents search near count x c₀ sum₀ c sum = length (route (treeIn links parents search) c)
 
 loop-holds : tie.Need-loop-holds Inv-loop μ-loop
-loop-holds c = stem-start _ _ _ (c .before .before .before .before .pre .0) (λ i. omega (arith, c .before .before .before .shared-slice-known .given i)) _ (c .before .before .before .before .pre .3)
+loop-holds c =
+    let shared-slice-known = c .before .before .before .shared-slice-known in
+    let pre = c .before .before .before .before .pre in
+    stem-start _ _ _ (pre .0) (λ i. omega (arith, shared-slice-known .given i)) _ (pre .3)
 
 cast-if1 : tie.Need-cast-if1 Inv-loop μ-loop
 cast-if1 c = search needs
@@ -33,25 +36,70 @@ wide-at-requires-2 : tie.Need-wide-at-requires-2 Inv-loop μ-loop
 wide-at-requires-2 c κs = search needs
 
 sub-more : tie.Need-sub-more Inv-loop μ-loop
-sub-more c = rw (c .before .wide-at .ensures, c .wide-at2 .ensures) (counts-less _ _ _ (c .before .before .before .before .before .before .before .before .before .before .pre .0) (λ i. omega (arith, c .before .before .before .before .before .before .before .before .before .shared-slice-known .given i)) _ (c .before .before .before .before .before .before .before .before .before .before .pre .3) _ _ (c .before .before .before .before .before .loop .inv) (c .before .before .before .if1 .taken) _ (c .before .before .up .ensures) _ _ (c .before .before .before .before .before .before .before .before .before .before .pre .1) (c .before .before .before .before .before .before .before .before .before .before .pre .2))
+sub-more c =
+    let if1 = c .before .before .before .if1 in
+    let loop = c .before .before .before .before .before .loop in
+    let shared-slice-known = c .before .before .before .before .before .before .before .before .before .shared-slice-known in
+    let pre = c .before .before .before .before .before .before .before .before .before .before .pre in
+    rw (c .before .wide-at .ensures, c .wide-at2 .ensures)
+    (counts-less _ _ _ (pre .0) (λ i. omega (arith, shared-slice-known .given i)) _ (pre .3) _ _ (loop .inv) (if1 .taken) _
+    (c .before .before .up .ensures) _ _ (pre .1) (pre .2))
 
 wide-at-requires-3 : tie.Need-wide-at-requires-3 Inv-loop μ-loop
 wide-at-requires-3 c κs = search needs
 
 product-requires : tie.Need-product-requires Inv-loop μ-loop
-product-requires c κs = rw (c .before .before .wide-at .ensures, c .before .wide-at2 .ensures, c .wide-at3 .ensures) (term-fits _ _ _ (c .before .before .before .before .before .before .before .before .before .before .before .pre .0) (λ i. omega (arith, c .before .before .before .before .before .before .before .before .before .before .shared-slice-known .given i)) _ (c .before .before .before .before .before .before .before .before .before .before .before .pre .3) _ _ (c .before .before .before .before .before .before .loop .inv) (c .before .before .before .before .if1 .taken) _ (c .before .before .before .up .ensures) _ _ (c .before .before .before .before .before .before .before .before .before .before .before .pre .1) (c .before .before .before .before .before .before .before .before .before .before .before .pre .2))
+product-requires c κs =
+    let up = c .before .before .before .up in
+    let if1 = c .before .before .before .before .if1 in
+    let loop = c .before .before .before .before .before .before .loop in
+    let shared-slice-known = c .before .before .before .before .before .before .before .before .before .before .shared-slice-known in
+    let pre = c .before .before .before .before .before .before .before .before .before .before .before .pre in
+    rw (c .before .before .wide-at .ensures, c .before .wide-at2 .ensures, c .wide-at3 .ensures)
+    (term-fits _ _ _ (pre .0) (λ i. omega (arith, shared-slice-known .given i)) _ (pre .3) _ _ (loop .inv) (if1 .taken) _ (up .ensures) _ _ (pre .1)
+    (pre .2))
 
 add-sum : tie.Need-add-sum Inv-loop μ-loop
-add-sum c = omega (arith, sum-fits _ _ _ (c .before .before .before .before .before .before .before .before .before .before .before .before .pre .0) (λ i. omega (arith, c .before .before .before .before .before .before .before .before .before .before .before .shared-slice-known .given i)) _ (c .before .before .before .before .before .before .before .before .before .before .before .before .pre .3) _ _ (c .before .before .before .before .before .before .before .loop .inv) (c .before .before .before .before .before .if1 .taken) _ (c .before .before .before .before .up .ensures) _ _ (c .before .before .before .before .before .before .before .before .before .before .before .before .pre .1) (c .before .before .before .before .before .before .before .before .before .before .before .before .pre .2) _ (c .product .ensures ∙ ap₂ (λ (a b : ℕ). a * b) (ap₂ (λ (a b : ℕ). a - b) (c .before .before .before .wide-at .ensures) (c .before .before .wide-at2 .ensures)) (c .before .wide-at3 .ensures)))
+add-sum c =
+    let wide-at = c .before .before .before .wide-at in
+    let up = c .before .before .before .before .up in
+    let if1 = c .before .before .before .before .before .if1 in
+    let loop = c .before .before .before .before .before .before .before .loop in
+    let shared-slice-known = c .before .before .before .before .before .before .before .before .before .before .before .shared-slice-known in
+    let pre = c .before .before .before .before .before .before .before .before .before .before .before .before .pre in
+    omega (
+      arith,
+      sum-fits _ _ _ (pre .0) (λ i. omega (arith, shared-slice-known .given i)) _ (pre .3) _ _ (loop .inv) (if1 .taken) _ (up .ensures) _
+          _ (pre .1) (pre .2) _ (c .product .ensures ∙ ap₂ (λ (a b : ℕ). a * b)
+          (ap₂ (λ (a b : ℕ). a - b) (wide-at .ensures) (c .before .before .wide-at2 .ensures)) (c .before .wide-at3 .ensures)),
+    )
 
 loop-less : tie.Need-loop-less Inv-loop μ-loop
-loop-less c = stem-less _ _ _ (c .before .before .before .before .before .before .before .before .before .before .before .before .pre .0) (λ i. omega (arith, c .before .before .before .before .before .before .before .before .before .before .before .shared-slice-known .given i)) _ (c .before .before .before .before .before .before .before .before .before .before .before .before .pre .3) _ _ (c .before .before .before .before .before .before .before .loop .inv) (c .before .before .before .before .before .if1 .taken) _ (c .before .before .before .before .up .ensures) _ _ (c .before .before .before .before .before .before .before .before .before .before .before .before .pre .1) (c .before .before .before .before .before .before .before .before .before .before .before .before .pre .2)
+loop-less c =
+    let up = c .before .before .before .before .up in
+    let if1 = c .before .before .before .before .before .if1 in
+    let loop = c .before .before .before .before .before .before .before .loop in
+    let shared-slice-known = c .before .before .before .before .before .before .before .before .before .before .before .shared-slice-known in
+    let pre = c .before .before .before .before .before .before .before .before .before .before .before .before .pre in
+    stem-less _ _ _ (pre .0) (λ i. omega (arith, shared-slice-known .given i)) _ (pre .3) _ _ (loop .inv) (if1 .taken) _ (up .ensures) _ _ (pre .1) (pre .2)
 
 loop-again : tie.Need-loop-again Inv-loop μ-loop
-loop-again c = stem-more _ _ _ (c .before .before .before .before .before .before .before .before .before .before .before .before .pre .0) (λ i. omega (arith, c .before .before .before .before .before .before .before .before .before .before .before .shared-slice-known .given i)) _ (c .before .before .before .before .before .before .before .before .before .before .before .before .pre .3) _ _ (c .before .before .before .before .before .before .before .loop .inv) (c .before .before .before .before .before .if1 .taken) _ (c .before .before .before .before .up .ensures) _ _ (c .before .before .before .before .before .before .before .before .before .before .before .before .pre .1) (c .before .before .before .before .before .before .before .before .before .before .before .before .pre .2) _ (c .product .ensures ∙ ap₂ (λ (a b : ℕ). a * b) (ap₂ (λ (a b : ℕ). a - b) (c .before .before .before .wide-at .ensures) (c .before .before .wide-at2 .ensures)) (c .before .wide-at3 .ensures))
+loop-again c =
+    let wide-at = c .before .before .before .wide-at in
+    let up = c .before .before .before .before .up in
+    let if1 = c .before .before .before .before .before .if1 in
+    let loop = c .before .before .before .before .before .before .before .loop in
+    let shared-slice-known = c .before .before .before .before .before .before .before .before .before .before .before .shared-slice-known in
+    let pre = c .before .before .before .before .before .before .before .before .before .before .before .before .pre in
+    stem-more _ _ _ (pre .0) (λ i. omega (arith, shared-slice-known .given i)) _ (pre .3) _ _ (loop .inv) (if1 .taken) _ (up .ensures) _ _ (pre .1)
+    (pre .2) _ (c .product .ensures ∙ ap₂ (λ (a b : ℕ). a * b) (ap₂ (λ (a b : ℕ). a - b) (wide-at .ensures) (c .before .before .wide-at2 .ensures))
+    (c .before .wide-at3 .ensures))
 
 returns : tie.Need-returns Inv-loop μ-loop
-returns c = stem-end _ _ _ (c .before .before .before .before .before .before .before .pre .0) (λ i. omega (arith, c .before .before .before .before .before .before .shared-slice-known .given i)) _ (c .before .before .before .before .before .before .before .pre .3) _ _ (c .before .before .loop .inv) (c .if1 .left)
+returns c =
+    let shared-slice-known = c .before .before .before .before .before .before .shared-slice-known in
+    let pre = c .before .before .before .before .before .before .before .pre in
+    stem-end _ _ _ (pre .0) (λ i. omega (arith, shared-slice-known .given i)) _ (pre .3) _ _ (c .before .before .loop .inv) (c .if1 .left)
 
 pub stem-of-spec : {M : Type 1} → statement M
 stem-of-spec =

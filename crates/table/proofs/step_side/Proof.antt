@@ -11,37 +11,91 @@ step-requires : tie.Need-step-requires
 step-requires c κs = search needs
 
 mul-d : tie.Need-mul-d
-mul-d c = omega (arith, next-low _ _ _ (c .before .before .before .before .before .before .pre .0) (λ i. omega (arith, c .before .before .before .before .before .shared-slice-known .given i)) _ (c .before .before .before .before .before .before .pre .1) _ (c .before .before .before .before .before .before .pre .2) _ (c .before .before .before .before .before .before .pre .3) (c .before .before .before .before .before .before .pre .4) (c .before .before .before .before .before .before .pre .5) _ (c .step .ensures), small _ _ _ (c .before .before .before .before .before .before .pre .0) (λ i. omega (arith, c .before .before .before .before .before .shared-slice-known .given i)))
+mul-d c =
+    let shared-slice-known = c .before .before .before .before .before .shared-slice-known in
+    let pre = c .before .before .before .before .before .before .pre in
+    omega (
+      arith,
+      next-low _ _ _ (pre .0) (λ i. omega (arith, shared-slice-known .given i)) _ (pre .1) _ (pre .2) _ (pre .3) (pre .4) (pre .5) _
+          (c .step .ensures),
+      small _ _ _ (pre .0) (λ i. omega (arith, shared-slice-known .given i)),
+    )
 
 shared-slice-read-d : tie.Need-shared-slice-read-d
-shared-slice-read-d c = omega (arith, next-low _ _ _ (c .before .before .before .before .before .before .before .pre .0) (λ i. omega (arith, c .before .before .before .before .before .before .shared-slice-known .given i)) _ (c .before .before .before .before .before .before .before .pre .1) _ (c .before .before .before .before .before .before .before .pre .2) _ (c .before .before .before .before .before .before .before .pre .3) (c .before .before .before .before .before .before .before .pre .4) (c .before .before .before .before .before .before .before .pre .5) _ (c .before .step .ensures), c .before .before .before .before .before .before .before .pre .1 .room)
+shared-slice-read-d c =
+    let shared-slice-known = c .before .before .before .before .before .before .shared-slice-known in
+    let pre = c .before .before .before .before .before .before .before .pre in
+    omega (
+      arith,
+      next-low _ _ _ (pre .0) (λ i. omega (arith, shared-slice-known .given i)) _ (pre .1) _ (pre .2) _ (pre .3) (pre .4) (pre .5) _
+          (c .before .step .ensures),
+      pre .1 .room,
+    )
 
 mul-down : tie.Need-mul-down
-mul-down c = omega (arith, c .before .before .before .before .before .before .before .pre .4, small _ _ _ (c .before .before .before .before .before .before .before .pre .0) (λ i. omega (arith, c .before .before .before .before .before .before .shared-slice-known .given i)))
+mul-down c =
+    let shared-slice-known = c .before .before .before .before .before .before .shared-slice-known in
+    let pre = c .before .before .before .before .before .before .before .pre in
+    omega (arith, pre .4, small _ _ _ (pre .0) (λ i. omega (arith, shared-slice-known .given i)))
 
 shared-slice-read-down : tie.Need-shared-slice-read-down
-shared-slice-read-down c = omega (arith, c .before .before .before .before .before .before .before .before .pre .4, c .before .before .before .before .before .before .before .before .pre .1 .room)
+shared-slice-read-down c =
+    let pre = c .before .before .before .before .before .before .before .before .pre in
+    omega (arith, pre .4, pre .1 .room)
 
 sub-down : tie.Need-sub-down
-sub-down c = down-less _ _ _ (c .before .before .before .before .before .before .before .before .pre .0) (λ i. omega (arith, c .before .before .before .before .before .before .before .shared-slice-known .given i)) _ (c .before .before .before .before .before .before .before .before .pre .1) _ (c .before .before .before .before .before .before .before .before .pre .2) _ (c .before .before .before .before .before .before .before .before .pre .3) (c .before .before .before .before .before .before .before .before .pre .4) (c .before .before .before .before .before .before .before .before .pre .5) _ (c .before .before .step .ensures) _ refl _ refl
+sub-down c =
+    let shared-slice-known = c .before .before .before .before .before .before .before .shared-slice-known in
+    let pre = c .before .before .before .before .before .before .before .before .pre in
+    down-less _ _ _ (pre .0) (λ i. omega (arith, shared-slice-known .given i)) _ (pre .1) _ (pre .2) _ (pre .3) (pre .4) (pre .5) _
+    (c .before .before .step .ensures) _ refl _ refl
 
 mul-over : tie.Need-mul-over
-mul-over c = omega (arith, node-low _ _ _ (c .before .before .before .before .before .before .before .before .pre .0) (λ i. omega (arith, c .before .before .before .before .before .before .before .shared-slice-known .given i)) _ (c .before .before .before .before .before .before .before .before .pre .1) _ (c .before .before .before .before .before .before .before .before .pre .2) _ (c .before .before .before .before .before .before .before .before .pre .3) (c .before .before .before .before .before .before .before .before .pre .4) (c .before .before .before .before .before .before .before .before .pre .5), small _ _ _ (c .before .before .before .before .before .before .before .before .pre .0) (λ i. omega (arith, c .before .before .before .before .before .before .before .shared-slice-known .given i)))
+mul-over c =
+    let shared-slice-known = c .before .before .before .before .before .before .before .shared-slice-known in
+    let pre = c .before .before .before .before .before .before .before .before .pre in
+    omega (
+      arith,
+      node-low _ _ _ (pre .0) (λ i. omega (arith, shared-slice-known .given i)) _ (pre .1) _ (pre .2) _ (pre .3) (pre .4) (pre .5),
+      small
+          _ _ _ (pre .0) (λ i. omega (arith, shared-slice-known .given i)),
+    )
 
 shared-slice-read-over : tie.Need-shared-slice-read-over
-shared-slice-read-over c = omega (arith, node-low _ _ _ (c .before .before .before .before .before .before .before .before .before .pre .0) (λ i. omega (arith, c .before .before .before .before .before .before .before .before .shared-slice-known .given i)) _ (c .before .before .before .before .before .before .before .before .before .pre .1) _ (c .before .before .before .before .before .before .before .before .before .pre .2) _ (c .before .before .before .before .before .before .before .before .before .pre .3) (c .before .before .before .before .before .before .before .before .before .pre .4) (c .before .before .before .before .before .before .before .before .before .pre .5), c .before .before .before .before .before .before .before .before .before .pre .2 .room)
+shared-slice-read-over c =
+    let shared-slice-known = c .before .before .before .before .before .before .before .before .shared-slice-known in
+    let pre = c .before .before .before .before .before .before .before .before .before .pre in
+    omega (arith, node-low _ _ _ (pre .0) (λ i. omega (arith, shared-slice-known .given i)) _ (pre .1) _ (pre .2) _ (pre .3) (pre .4) (pre .5), pre .2 .room)
 
 sub-over : tie.Need-sub-over
-sub-over c = over-less _ _ _ (c .before .before .before .before .before .before .before .before .before .pre .0) (λ i. omega (arith, c .before .before .before .before .before .before .before .before .shared-slice-known .given i)) _ (c .before .before .before .before .before .before .before .before .before .pre .1) _ (c .before .before .before .before .before .before .before .before .before .pre .2) _ (c .before .before .before .before .before .before .before .before .before .pre .3) (c .before .before .before .before .before .before .before .before .before .pre .4) (c .before .before .before .before .before .before .before .before .before .pre .5) _ (c .before .before .before .step .ensures) _ refl _ refl _ refl
+sub-over c =
+    let step = c .before .before .before .step in
+    let shared-slice-known = c .before .before .before .before .before .before .before .before .shared-slice-known in
+    let pre = c .before .before .before .before .before .before .before .before .before .pre in
+    over-less _ _ _ (pre .0) (λ i. omega (arith, shared-slice-known .given i)) _ (pre .1) _ (pre .2) _ (pre .3) (pre .4) (pre .5) _ (step .ensures) _
+    refl _ refl _ refl
 
 add-larger : tie.Need-add-larger
-add-larger c = omega (arith, over-fits _ _ _ (c .before .before .before .before .before .before .before .before .before .pre .0) (λ i. omega (arith, c .before .before .before .before .before .before .before .before .shared-slice-known .given i)) _ (c .before .before .before .before .before .before .before .before .before .pre .1) _ (c .before .before .before .before .before .before .before .before .before .pre .2) _ (c .before .before .before .before .before .before .before .before .before .pre .3) (c .before .before .before .before .before .before .before .before .before .pre .4) (c .before .before .before .before .before .before .before .before .before .pre .5) _ (c .before .before .before .step .ensures) _ refl _ refl _ refl)
+add-larger c =
+    let step = c .before .before .before .step in
+    let shared-slice-known = c .before .before .before .before .before .before .before .before .shared-slice-known in
+    let pre = c .before .before .before .before .before .before .before .before .before .pre in
+    omega (
+      arith,
+      over-fits _ _ _ (pre .0) (λ i. omega (arith, shared-slice-known .given i)) _ (pre .1) _ (pre .2) _ (pre .3) (pre .4) (pre .5) _
+          (step .ensures) _ refl _ refl _ refl,
+    )
 
 larger-requires : tie.Need-larger-requires
 larger-requires c κs = search needs
 
 returns : tie.Need-returns
-returns c = step-carries _ _ _ (c .before .before .before .before .before .before .before .before .before .before .pre .0) (λ i. omega (arith, c .before .before .before .before .before .before .before .before .before .shared-slice-known .given i)) _ (c .before .before .before .before .before .before .before .before .before .before .pre .1) _ (c .before .before .before .before .before .before .before .before .before .before .pre .2) _ (c .before .before .before .before .before .before .before .before .before .before .pre .3) (c .before .before .before .before .before .before .before .before .before .before .pre .4) (c .before .before .before .before .before .before .before .before .before .before .pre .5) _ (c .before .before .before .before .step .ensures) _ refl _ refl _ refl _ (c .larger .ensures)
+returns c =
+    let step = c .before .before .before .before .step in
+    let shared-slice-known = c .before .before .before .before .before .before .before .before .before .shared-slice-known in
+    let pre = c .before .before .before .before .before .before .before .before .before .before .pre in
+    step-carries _ _ _ (pre .0) (λ i. omega (arith, shared-slice-known .given i)) _ (pre .1) _ (pre .2) _ (pre .3) (pre .4) (pre .5) _ (step .ensures)
+    _ refl _ refl _ refl _ (c .larger .ensures)
 
 pub step-side-spec : {M : Type 1} → statement M
 step-side-spec =

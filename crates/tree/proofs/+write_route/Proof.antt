@@ -65,7 +65,9 @@ add-result : (t : ℕ) → lts.Need-add-result (calls t) (own t) route.Post
 add-result t c = search needs
 
 same-length-2 : (t : ℕ) → lts.Need-same-length-2 (calls t) (own t) route.Post
-same-length-2 t c = let a = c .before .before .before .before .before .before .before .before .before .before .before .before .args in c .before .before .write-route .kept .1 .1 .1 .1 .1 .0 ∙ length-set (now (a .row)) (a .at) (a .u)
+same-length-2 t c =
+    let a = c .before .before .before .before .before .before .before .before .before .before .before .before .args in c .before .before .write-route
+    .kept .1 .1 .1 .1 .1 .0 ∙ length-set (now (a .row)) (a .at) (a .u)
 
 returns-3 : (t : ℕ) → lts.Need-returns-3 (calls t) (own t) route.Post
 returns-3 t c =
@@ -83,4 +85,6 @@ returns-3 t c =
 pub +write-route-spec : {M : Type 1} → statement M
 +write-route-spec =
     close μ-route
-    λ t. lts.spec (calls t) (own t) route.Post (returns t) (mul-row t) (slice-write-row t) (cast-if2 t) (same-length t) (returns-2 t) (rise-requires t) (up-requires t) (cast-result t) (sub-write-route t) (add-write-route t) (write-route-requires t) (add-result t) (same-length-2 t) (returns-3 t)
+    λ t. lts.spec (calls t) (own t) route.Post (returns t) (mul-row t) (slice-write-row t) (cast-if2 t) (same-length t) (returns-2 t)
+    (rise-requires t) (up-requires t) (cast-result t) (sub-write-route t) (add-write-route t) (write-route-requires t) (add-result t)
+    (same-length-2 t) (returns-3 t)

@@ -28,7 +28,10 @@ refuse-if-requires c κs = search needs
 
 returns-2 : tie.Need-returns-2
 unfolding roomVerdict firstly
-returns-2 c = rw (← c .before .before .before .before .limits .ensures, ← c .before .before .before .check-nodes .ensures, c .before .enum-told .given .1) (c .refuse-if .ensures ∙ sym (only-one _))
+returns-2 c =
+    let check-nodes = c .before .before .before .check-nodes in
+    let limits = c .before .before .before .before .limits in
+    rw (← limits .ensures, ← check-nodes .ensures, c .before .enum-told .given .1) (c .refuse-if .ensures ∙ sym (only-one _))
 
 pub check-row-spec : {M : Type 1} → statement M
 check-row-spec =

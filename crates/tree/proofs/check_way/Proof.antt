@@ -32,7 +32,11 @@ refuse-if-requires c κs = search needs
 
 returns-2 : tie.Need-returns-2
 unfolding wayVerdict firstly netOf
-returns-2 c = rw (← c .before .before .before .before .before .limits .ensures, ← c .before .before .before .before .check-nodes .ensures, c .before .before .enum-told .given .1, ← c .before .is-lost .ensures) (c .refuse-if .ensures ∙ sym (only-one _))
+returns-2 c =
+    let check-nodes = c .before .before .before .before .check-nodes in
+    let limits = c .before .before .before .before .before .limits in
+    rw (← limits .ensures, ← check-nodes .ensures, c .before .before .enum-told .given .1, ← c .before .is-lost .ensures)
+    (c .refuse-if .ensures ∙ sym (only-one _))
 
 pub check-way-spec : {M : Type 1} → statement M
 check-way-spec =

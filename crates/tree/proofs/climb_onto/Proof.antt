@@ -18,7 +18,10 @@ begin-requires : tie.Need-begin-requires Inv-loop μ-loop
 begin-requires c κs = search needs
 
 loop-holds : tie.Need-loop-holds Inv-loop μ-loop
-loop-holds c = onward-start _ _ _ (λ i. omega (arith, c .before .before .before .shared-slice-known .given i)) (c .before .before .before .before .pre .0) _ _ (c .before .before .before .before .pre .1) _ (c .begin .ensures)
+loop-holds c =
+    let shared-slice-known = c .before .before .before .shared-slice-known in
+    let pre = c .before .before .before .before .pre in
+    onward-start _ _ _ (λ i. omega (arith, shared-slice-known .given i)) (pre .0) _ _ (pre .1) _ (c .begin .ensures)
 
 in-row-requires : tie.Need-in-row-requires Inv-loop μ-loop
 in-row-requires c κs = search needs
@@ -27,13 +30,27 @@ step-requires : tie.Need-step-requires Inv-loop μ-loop
 step-requires c κs = search needs
 
 loop-less : tie.Need-loop-less Inv-loop μ-loop
-loop-less c = onward-less _ _ _ (λ i. omega (arith, c .before .before .before .before .before .before .before .shared-slice-known .given i)) (c .before .before .before .before .before .before .before .before .pre .0) _ _ (c .before .before .before .before .before .before .before .before .pre .1) _ (c .before .before .before .loop .inv) (c .before .before .before .before .before .before .before .before .pre .2) _ (c .before .before .in-row .ensures) (c .before .if1 .taken) _ (c .step .ensures)
+loop-less c =
+    let loop = c .before .before .before .loop in
+    let shared-slice-known = c .before .before .before .before .before .before .before .shared-slice-known in
+    let pre = c .before .before .before .before .before .before .before .before .pre in
+    onward-less _ _ _ (λ i. omega (arith, shared-slice-known .given i)) (pre .0) _ _ (pre .1) _ (loop .inv) (pre .2) _
+    (c .before .before .in-row .ensures) (c .before .if1 .taken) _ (c .step .ensures)
 
 loop-again : tie.Need-loop-again Inv-loop μ-loop
-loop-again c = onward-more _ _ _ (λ i. omega (arith, c .before .before .before .before .before .before .before .shared-slice-known .given i)) (c .before .before .before .before .before .before .before .before .pre .0) _ _ (c .before .before .before .before .before .before .before .before .pre .1) _ (c .before .before .before .loop .inv) (c .before .before .before .before .before .before .before .before .pre .2) _ (c .before .before .in-row .ensures) (c .before .if1 .taken) _ (c .step .ensures)
+loop-again c =
+    let loop = c .before .before .before .loop in
+    let shared-slice-known = c .before .before .before .before .before .before .before .shared-slice-known in
+    let pre = c .before .before .before .before .before .before .before .before .pre in
+    onward-more _ _ _ (λ i. omega (arith, shared-slice-known .given i)) (pre .0) _ _ (pre .1) _ (loop .inv) (pre .2) _
+    (c .before .before .in-row .ensures) (c .before .if1 .taken) _ (c .step .ensures)
 
 returns : tie.Need-returns Inv-loop μ-loop
-returns c = onward-end _ _ _ (λ i. omega (arith, c .before .before .before .before .before .before .shared-slice-known .given i)) (c .before .before .before .before .before .before .before .pre .0) _ _ (c .before .before .before .before .before .before .before .pre .1) _ (c .before .before .loop .inv) _ (c .before .in-row .ensures) (c .if1 .left)
+returns c =
+    let shared-slice-known = c .before .before .before .before .before .before .shared-slice-known in
+    let pre = c .before .before .before .before .before .before .before .pre in
+    onward-end _ _ _ (λ i. omega (arith, shared-slice-known .given i)) (pre .0) _ _ (pre .1) _ (c .before .before .loop .inv) _
+    (c .before .in-row .ensures) (c .if1 .left)
 
 pub climb-onto-spec : {M : Type 1} → statement M
 climb-onto-spec =

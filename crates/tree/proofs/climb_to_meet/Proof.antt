@@ -16,7 +16,9 @@ slice-aggregate-write-route : tie.Need-slice-aggregate-write-route
 slice-aggregate-write-route c = search needs
 
 write-route-requires : tie.Need-write-route-requires
-write-route-requires c κs = let n = nodes-known _ _ _ _ (c .before .before .before .before .before .pre .2) _ (c .before .before .to-root .ensures) in (omega (arith, n .1, c .before .before .before .before .before .pre .0), omega (arith, n .1, c .before .before .before .before .before .pre .0))
+write-route-requires c κs =
+    let pre = c .before .before .before .before .before .pre in
+    let n = nodes-known _ _ _ _ (pre .2) _ (c .before .before .to-root .ensures) in (omega (arith, n .1, pre .0), omega (arith, n .1, pre .0))
 
 sub-climb-onto : tie.Need-sub-climb-onto
 sub-climb-onto c = search needs
@@ -25,13 +27,29 @@ part-climb-onto-start : tie.Need-part-climb-onto-start
 part-climb-onto-start c = search needs
 
 part-climb-onto-end : tie.Need-part-climb-onto-end
-part-climb-onto-end c = let n = nodes-known _ _ _ _ (c .before .before .before .before .before .before .before .before .pre .2) _ (c .before .before .before .before .before .to-root .ensures) in omega (arith, n .1, c .before .before .before .before .before .before .before .before .pre .0, c .before .before .write-route .kept .1 .1 .1 .1 .1 .0)
+part-climb-onto-end c =
+    let to-root = c .before .before .before .before .before .to-root in
+    let pre = c .before .before .before .before .before .before .before .before .pre in
+    let n = nodes-known _ _ _ _ (pre .2) _ (to-root .ensures) in omega (arith, n .1, pre .0, c .before .before .write-route .kept .1 .1 .1 .1 .1 .0)
 
 climb-onto-requires : tie.Need-climb-onto-requires
-climb-onto-requires c κs = (c .before .before .before .before .before .before .before .before .before .pre .0, c .before .before .before .before .before .before .before .before .before .pre .1, root-there _ _ _ _ (c .before .before .before .before .before .before .before .before .before .pre .2) _ (part-known _ _ _ _ (c .before .before .before .before .before .before .before .before .before .pre .2) _ (c .before .before .before .before .before .before .to-root .ensures) _ _ _ (omega (arith, nodes-known _ _ _ _ (c .before .before .before .before .before .before .before .before .before .pre .2) _ (c .before .before .before .before .before .before .to-root .ensures) .1, c .before .before .before .before .before .before .before .before .before .pre .0)) (c .before .before .before .write-route .ensures)))
+climb-onto-requires c κs =
+    let write-route = c .before .before .before .write-route in
+    let to-root = c .before .before .before .before .before .before .to-root in
+    let pre = c .before .before .before .before .before .before .before .before .before .pre in (
+      pre .0,
+      pre .1,
+      root-there _ _ _ _ (pre .2) _ (part-known _ _ _ _ (pre .2) _ (to-root .ensures) _ _ _
+          (omega (arith, nodes-known _ _ _ _ (pre .2) _ (to-root .ensures) .1, pre .0)) (write-route .ensures)),
+    )
 
 returns : tie.Need-returns
-returns c = onto-same _ _ _ _ _ (part-known _ _ _ _ (c .before .before .before .before .before .before .before .before .before .before .pre .2) _ (c .before .before .before .before .before .before .before .to-root .ensures) _ _ _ (omega (arith, nodes-known _ _ _ _ (c .before .before .before .before .before .before .before .before .before .before .pre .2) _ (c .before .before .before .before .before .before .before .to-root .ensures) .1, c .before .before .before .before .before .before .before .before .before .before .pre .0)) (c .before .before .before .before .write-route .ensures)) (c .climb-onto .ensures)
+returns c =
+    let write-route = c .before .before .before .before .write-route in
+    let to-root = c .before .before .before .before .before .before .before .to-root in
+    let pre = c .before .before .before .before .before .before .before .before .before .before .pre in
+    onto-same _ _ _ _ _ (part-known _ _ _ _ (pre .2) _ (to-root .ensures) _ _ _
+    (omega (arith, nodes-known _ _ _ _ (pre .2) _ (to-root .ensures) .1, pre .0)) (write-route .ensures)) (c .climb-onto .ensures)
 
 pub climb-to-meet-spec : {M : Type 1} → statement M
 climb-to-meet-spec =

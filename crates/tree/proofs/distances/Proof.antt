@@ -27,7 +27,10 @@ same-length c = search needs
 
 returns-2 : tie.Need-returns-2
 unfolding netOf
-returns-2 c = distances-filled _ _ _ (c .before .before .before .before .before .before .check-row .ensures) (c .before .before .before .before .enum-told .given .1) _ (c .before .before .fill-distances .ensures)
+returns-2 c =
+    let enum-told = c .before .before .before .before .enum-told in
+    let check-row = c .before .before .before .before .before .before .check-row in
+    distances-filled _ _ _ (check-row .ensures) (enum-told .given .1) _ (c .before .before .fill-distances .ensures)
 
 pub distances-spec : {M : Type 1} → statement M
 distances-spec =

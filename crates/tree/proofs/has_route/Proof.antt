@@ -36,7 +36,10 @@ loop-less c = search needs
 
 loop-again : tie.Need-loop-again Inv-loop μ-loop
 unfolding treeOf netOf
-loop-again c = finding-more _ _ _ _ _ (c .before .before .before .before .loop .inv) (c .before .before .before .loop-test .taken) (ne-eqb _ _ (c .before .if1 .left)) _ (c .up .ensures)
+loop-again c =
+    let loop-test = c .before .before .before .loop-test in
+    let loop = c .before .before .before .before .loop in
+    finding-more _ _ _ _ _ (loop .inv) (loop-test .taken) (ne-eqb _ _ (c .before .if1 .left)) _ (c .up .ensures)
 
 returns-2 : tie.Need-returns-2 Inv-loop μ-loop
 unfolding hasRoute treeOf netOf

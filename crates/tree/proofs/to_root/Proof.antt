@@ -24,7 +24,11 @@ cast-if1 : tie.Need-cast-if1 Inv-loop μ-loop
 cast-if1 c = search needs
 
 returns : tie.Need-returns Inv-loop μ-loop
-returns c = ascend-root _ _ _ (λ i. omega (arith, c .before .before .before .before .before .before .before .shared-slice-known .given i)) _ _ _ (c .before .before .before .before .loop .inv) (c .before .before .before .loop-test .taken) (c .if1 .taken)
+returns c =
+    let loop-test = c .before .before .before .loop-test in
+    let loop = c .before .before .before .before .loop in
+    let shared-slice-known = c .before .before .before .before .before .before .before .shared-slice-known in
+    ascend-root _ _ _ (λ i. omega (arith, shared-slice-known .given i)) _ _ _ (loop .inv) (loop-test .taken) (c .if1 .taken)
 
 step-requires : tie.Need-step-requires Inv-loop μ-loop
 step-requires c κs = search needs
@@ -36,10 +40,17 @@ loop-less : tie.Need-loop-less Inv-loop μ-loop
 loop-less c = search needs
 
 loop-again : tie.Need-loop-again Inv-loop μ-loop
-loop-again c = ascend-more _ _ _ (λ i. omega (arith, c .before .before .before .before .before .before .before .before .shared-slice-known .given i)) _ _ _ (c .before .before .before .before .before .loop .inv) (c .before .before .before .before .before .before .before .before .before .pre) (c .before .before .before .before .loop-test .taken) (c .before .if1 .left) _ (c .step .ensures)
+loop-again c =
+    let loop-test = c .before .before .before .before .loop-test in
+    let loop = c .before .before .before .before .before .loop in
+    let shared-slice-known = c .before .before .before .before .before .before .before .before .shared-slice-known in
+    let pre = c .before .before .before .before .before .before .before .before .before .pre in
+    ascend-more _ _ _ (λ i. omega (arith, shared-slice-known .given i)) _ _ _ (loop .inv) (pre) (loop-test .taken) (c .before .if1 .left) _ (c .step .ensures)
 
 returns-2 : tie.Need-returns-2 Inv-loop μ-loop
-returns-2 c = ascend-end _ _ _ (λ i. omega (arith, c .before .before .before .before .shared-slice-known .given i)) _ _ _ (c .before .loop .inv) (c .loop-test .left)
+returns-2 c =
+    ascend-end _ _ _ (λ i. omega (arith, c .before .before .before .before .shared-slice-known .given i)) _ _ _ (c .before .loop .inv)
+    (c .loop-test .left)
 
 pub to-root-spec : {M : Type 1} → statement M
 to-root-spec =

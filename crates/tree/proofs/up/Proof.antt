@@ -27,7 +27,9 @@ other-end-requires c κs = search needs
 
 returns-2 : tie.Need-returns-2
 unfolding treeOf netOf
-returns-2 c = rw (ne-eqb _ _ (c .before .before .before .if1 .left), ← c .before .before .parent-of .ensures, ← c .before .link-at .ensures) (c .other-end .ensures)
+returns-2 c =
+    let if1 = c .before .before .before .if1 in
+    rw (ne-eqb _ _ (if1 .left), ← c .before .before .parent-of .ensures, ← c .before .link-at .ensures) (c .other-end .ensures)
 
 pub up-spec : {M : Type 1} → statement M
 up-spec =

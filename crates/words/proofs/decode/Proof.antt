@@ -25,7 +25,9 @@ mul-row : tie.Need-mul-row Inv-loop μ-loop
 mul-row c = search needs
 
 slice-write-row : tie.Need-slice-write-row Inv-loop μ-loop
-slice-write-row c = filled-room _ _ _ _ _ (c .before .before .loop .inv) (omega (arith, c .before .loop-test .taken, filled-length _ _ _ _ _ (c .before .before .loop .inv)))
+slice-write-row c =
+    filled-room _ _ _ _ _ (c .before .before .loop .inv)
+    (omega (arith, c .before .loop-test .taken, filled-length _ _ _ _ _ (c .before .before .loop .inv)))
 
 add-i : tie.Need-add-i Inv-loop μ-loop
 add-i c = search needs
@@ -34,7 +36,9 @@ loop-less : tie.Need-loop-less Inv-loop μ-loop
 loop-less c = omega (arith, c .before .loop-test .taken, filled-length _ _ _ _ _ (c .before .before .loop .inv))
 
 loop-again : tie.Need-loop-again Inv-loop μ-loop
-loop-again c = filled-more _ _ _ _ _ (c .before .before .loop .inv) (omega (arith, c .before .loop-test .taken, filled-length _ _ _ _ _ (c .before .before .loop .inv))) _ (c .word .ensures)
+loop-again c =
+    filled-more _ _ _ _ _ (c .before .before .loop .inv)
+    (omega (arith, c .before .loop-test .taken, filled-length _ _ _ _ _ (c .before .before .loop .inv))) _ (c .word .ensures)
 
 same-length : tie.Need-same-length Inv-loop μ-loop
 same-length c = filled-length _ _ _ _ _ (c .before .loop .inv)

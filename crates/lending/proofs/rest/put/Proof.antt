@@ -15,7 +15,9 @@ same-length c = search needs
 
 returns : tie.Need-returns
 unfolding restText
-returns c = rw (c .before .before .before .before .before .if1 .taken) (c .before .before .put .ensures)
+returns c =
+    let if1 = c .before .before .before .before .before .if1 in
+    rw (if1 .taken) (c .before .before .put .ensures)
 
 slice-aggregate-put-2 : tie.Need-slice-aggregate-put-2
 slice-aggregate-put-2 c = search needs
@@ -28,7 +30,9 @@ same-length-2 c = search needs
 
 returns-2 : tie.Need-returns-2
 unfolding restText
-returns-2 c = rw (c .before .before .before .before .before .if1 .left) (c .before .before .put2 .ensures)
+returns-2 c =
+    let if1 = c .before .before .before .before .before .if1 in
+    rw (if1 .left) (c .before .before .put2 .ensures)
 
 pub put-spec : {M : Type 1} → statement M
 put-spec =

@@ -18,18 +18,38 @@ most-rest-requires c κs = search needs
 
 returns-3 : tie.Need-returns-3
 unfolding isOver
-returns-3 c = rw (le-ltb _ _ (c .before .before .before .before .before .if1 .left), le-ltb _ _ (c .before .before .before .if2 .left), ← c .before .before .most-rest .ensures, lt-ltb _ _ (c .if3 .taken))
+returns-3 c =
+    let if2 = c .before .before .before .if2 in
+    let if1 = c .before .before .before .before .before .if1 in
+    rw (le-ltb _ _ (if1 .left), le-ltb _ _ (if2 .left), ← c .before .before .most-rest .ensures, lt-ltb _ _ (c .if3 .taken))
 
 returns-4 : tie.Need-returns-4
 unfolding isOver
-returns-4 c = rw (le-ltb _ _ (c .before .before .before .before .before .before .before .if1 .left), le-ltb _ _ (c .before .before .before .before .before .if2 .left), ← c .before .before .before .before .most-rest .ensures, le-ltb _ _ (c .before .before .if3 .left), ne-eqb _ _ (c .if4 .taken))
+returns-4 c =
+    let most-rest = c .before .before .before .before .most-rest in
+    let if2 = c .before .before .before .before .before .if2 in
+    let if1 = c .before .before .before .before .before .before .before .if1 in
+    rw (le-ltb _ _ (if1 .left), le-ltb _ _ (if2 .left), ← most-rest .ensures, le-ltb _ _ (c .before .before .if3 .left), ne-eqb _ _ (c .if4 .taken))
 
 is-over-rows-requires : tie.Need-is-over-rows-requires
 is-over-rows-requires c κs = search needs
 
 returns-5 : tie.Need-returns-5
 unfolding isOver
-returns-5 c = rw (le-ltb _ _ (c .before .before .before .before .before .before .before .before .if1 .left), le-ltb _ _ (c .before .before .before .before .before .before .if2 .left), ← c .before .before .before .before .before .most-rest .ensures, le-ltb _ _ (c .before .before .before .if3 .left), eq-eqb _ _ (c .before .if4 .left), ← c .is-over-rows .ensures)
+returns-5 c =
+    let if3 = c .before .before .before .if3 in
+    let most-rest = c .before .before .before .before .before .most-rest in
+    let if2 = c .before .before .before .before .before .before .if2 in
+    let if1 = c .before .before .before .before .before .before .before .before .if1 in
+    rw (
+      le-ltb _ _ (if1 .left),
+      le-ltb _ _ (if2 .left),
+      ← most-rest .ensures,
+      le-ltb _ _ (if3 .left),
+      eq-eqb _ _ (c .before .if4 .left),
+      ←
+          c .is-over-rows .ensures,
+    )
 
 pub is-over-spec : {M : Type 1} → statement M
 is-over-spec =

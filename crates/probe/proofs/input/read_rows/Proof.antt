@@ -30,7 +30,9 @@ same-length-4 : tie.Need-same-length-4
 same-length-4 c = search needs
 
 returns-2 : tie.Need-returns-2
-returns-2 c = (behind-read _ _ _ _ _ (c .before .before .before .before .before .before .before .before .before .before .before .read-words .ensures), refl)
+returns-2 c =
+    let read-words = c .before .before .before .before .before .before .before .before .before .before .before .read-words in
+    (behind-read _ _ _ _ _ (read-words .ensures), refl)
 
 read-words-requires-2 : tie.Need-read-words-requires-2
 read-words-requires-2 c κs = search needs
@@ -45,7 +47,10 @@ same-length-7 : tie.Need-same-length-7
 same-length-7 c = search needs
 
 returns-3 : tie.Need-returns-3
-returns-3 c = (behind-read _ _ _ _ _ (c .before .before .before .before .before .before .before .before .before .before .before .before .before .before .read-words .ensures), behind-read _ _ _ _ _ (c .before .before .before .before .read-words2 .ensures))
+returns-3 c =
+    let read-words2 = c .before .before .before .before .read-words2 in
+    let read-words = c .before .before .before .before .before .before .before .before .before .before .before .before .before .before .read-words in
+    (behind-read _ _ _ _ _ (read-words .ensures), behind-read _ _ _ _ _ (read-words2 .ensures))
 
 pub read-rows-spec : {M : Type 1} → statement M
 read-rows-spec =

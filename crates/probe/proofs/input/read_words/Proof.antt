@@ -48,7 +48,10 @@ same-length-3 : tie.Need-same-length-3
 same-length-3 c = search needs
 
 returns-4 : tie.Need-returns-4
-returns-4 c = front-read _ (c .before .before .before .before .before .before .before .before .before .before .before .before .before .before .args .row .now) _ (c .before .before .before .before .before .before .before .before .before .before .before .before .before .before .args .n - 0) (omega arith) (c .before .before .before .before .before .before .before .before .before .before .before .if1 .left) _ (c .before .before .decode .ensures)
+returns-4 c =
+    let if1 = c .before .before .before .before .before .before .before .before .before .before .before .if1 in
+    let args = c .before .before .before .before .before .before .before .before .before .before .before .before .before .before .args in
+    front-read _ (args .row .now) _ (args .n - 0) (omega arith) (if1 .left) _ (c .before .before .decode .ensures)
 
 pub read-words-spec : {M : Type 1} → statement M
 read-words-spec =

@@ -21,7 +21,9 @@ wrapping-add-u64-requires c κs = search needs
 
 returns : tie.Need-returns
 unfolding stepped
-returns c = rw (← c .before .before .up .ensures, ← c .before .before .before .rise .ensures, ← c .before .wrapping-add-usize .ensures, ← c .wrapping-add-u64 .ensures)
+returns c =
+    let rise = c .before .before .before .rise in
+    rw (← c .before .before .up .ensures, ← rise .ensures, ← c .before .wrapping-add-usize .ensures, ← c .wrapping-add-u64 .ensures)
 
 pub step-spec : {M : Type 1} → statement M
 step-spec =
