@@ -18,7 +18,7 @@ use Rattle.archive.specs.Work.{heldBytes, recordBy, laid, Held, Tabled}
 use Rattle.archive.specs.Writer.{recordOf, blockOf}
 use Rattle.numbers.specs.Bytes.{wordMost}
 use Rattle.archive.proofs.Parting.{Fit, held-room, part-fit, part-heard, Stands, part-stands}
-use Rattle.archive.proofs.Files.{few-nodes, few-links}
+use Rattle.archive.proofs.WriterAnswer.{few-nodes, few-links}
 use Rattle.archive.proofs.Laying.{record-size}
 use Rattle.rows.specs.Count.{rowsTo}
 use Rattle.rows.proofs.Records.{rows-cong, rows-length}

@@ -31,7 +31,7 @@ use Rattle.archive.specs.Writer.{fileOf}
 use Rattle.archive.specs.Reader.{nodesRead, linksRead, searchRead, storedLink, linksHeld, parentsHeld, netRead}
 use Rattle.numbers.proofs.Pieces.{number-part}
 use Rattle.archive.proofs.Pieces.{row-get}
-use Rattle.archive.proofs.Filed.{header-there, link-there, entry-there}
+use Rattle.archive.proofs.FileContents.{header-there, link-there, entry-there}
 
 -- four numbers of 16 bits, read back
 module _ (a b c d : ℕ) where

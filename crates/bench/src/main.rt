@@ -6,7 +6,7 @@
 use edition::Memory;
 use edition::Search;
 use edition::Verdict;
-use words::HEAD;
+use test_words::HEAD;
 
 // Bytes of the longest input, and one more, by which a longer one is seen.
 const BYTES: usize = 2 * (HEAD + Memory::NODES + Memory::LINK_ROW) + 1;
@@ -56,7 +56,7 @@ fn repeat(
 
 // What comes of the bytes of an input.
 fn worked(raw: &[u8], links: &mut [u16], parents: &mut [u16], entries: &mut [u64]) -> Outcome {
-    let head = words::head_of(raw);
+    let head = test_words::head_of(raw);
     let n = head.nodes;
     let m = head.links;
     if parents.len() < n {
@@ -76,8 +76,8 @@ fn worked(raw: &[u8], links: &mut [u16], parents: &mut [u16], entries: &mut [u64
     if raw.len() != 2 * (HEAD + n + linked) {
         return Outcome::Refused;
     }
-    words::decode(&raw[2 * HEAD..], &mut parents[0..n]);
-    words::decode(&raw[2 * (HEAD + n)..], &mut links[0..linked]);
+    test_words::decode(&raw[2 * HEAD..], &mut parents[0..n]);
+    test_words::decode(&raw[2 * (HEAD + n)..], &mut links[0..linked]);
     repeat(
         &links[0..linked],
         &parents[0..n],

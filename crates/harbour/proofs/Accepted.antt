@@ -17,7 +17,7 @@ use Rattle.network.proofs.Sizes.{sizes-grow}
 use Rattle.sound.specs.Sound.{netVerdict}
 use Rattle.archive.specs.Writer.{fileOf}
 use Rattle.archive.specs.Reader.{Rows, tight, readVerdict}
-use Rattle.archive.proofs.Taking.{written-accepted}
+use Rattle.archive.proofs.WrittenAccepted.{written-accepted}
 
 -- today memory's limits are within edition 1's too
 pub memory-within : Within memoryLimits editionLimits

@@ -6,8 +6,8 @@ use Prim.Native.Nat.{ℕ, _≤_}
 use native.Mathlib.Omega.{arith}
 use lib.ListN.{length, take, drop}
 use lib.Seq.{drop-at, length-take-le}
-use Rattle.words.specs.Words.{wordsIn}
-use Rattle.words.proofs.Reading.{words-length}
+use Rattle.test_words.specs.Words.{wordsIn}
+use Rattle.test_words.proofs.Reading.{words-length}
 use Rattle.probe.specs.Input.{rowRead}
 
 -- the words were read to the first k numbers

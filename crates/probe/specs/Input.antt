@@ -3,7 +3,7 @@ use mathlib.Core.Bool.{Bool, cond}
 use mathlib.Core.List.{List, _++_}
 use Prim.Native.Nat.{ℕ, _+_, _*_}
 use lib.ListN.{drop}
-use Rattle.words.specs.Words.{wordIn, wordsIn}
+use Rattle.test_words.specs.Words.{wordIn, wordsIn}
 use Rattle.probe.specs.declared.input.Head.{Head}
 use Rattle.probe.specs.declared.input.Heading.{Heading}
 use Rattle.probe.specs.declared.input.Heading.the-variants.{Is, End}

@@ -2,7 +2,7 @@
 use mathlib.Core.Bool.{Bool, cond, not, _&&_, _||_}
 use Prim.Native.Nat.{ℕ}
 use lib.Dec.{eqb, ltb, leb}
-use Rattle.lending.specs.Limits.{mostParents, mostLinks, mostBytes, mostRoom}
+use Rattle.probe_rows.specs.Limits.{mostParents, mostLinks, mostBytes, mostRoom}
 use Rattle.probe.specs.declared.input.Head.{Head}
 
 -- The ops of the probe's table are 1 to this one.

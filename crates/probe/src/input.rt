@@ -7,10 +7,10 @@ ghost use Rattle.probe.specs.Limits.{mostRest, overRows, isOver};
 use crate::limits::HEAD;
 use crate::ops;
 use edition::Search;
-use lending::limits::BYTES;
-use lending::limits::LINKS;
-use lending::limits::PARENTS;
-use lending::limits::ROOM;
+use probe_rows::limits::BYTES;
+use probe_rows::limits::LINKS;
+use probe_rows::limits::PARENTS;
+use probe_rows::limits::ROOM;
 
 // The head of a case: its op, how many parents and how much else follow, how much room is lent, and the numbers that the
 // caller states.
@@ -43,18 +43,18 @@ fn head_of(raw: &[u8]) -> Head
     ensures { λ r. ⌜ r ≡ headIn (now (raw .entry)) ⌝ }
 {
     let search = Search {
-        root: words::word(raw, 6),
-        depth: words::word(raw, 7),
+        root: test_words::word(raw, 6),
+        depth: test_words::word(raw, 7),
     };
     Head {
-        op: words::word(raw, 0),
-        parents: words::word(raw, 1) as usize,
-        rest: long(words::word(raw, 2), words::word(raw, 3)),
-        room: long(words::word(raw, 4), words::word(raw, 5)),
+        op: test_words::word(raw, 0),
+        parents: test_words::word(raw, 1) as usize,
+        rest: long(test_words::word(raw, 2), test_words::word(raw, 3)),
+        room: long(test_words::word(raw, 4), test_words::word(raw, 5)),
         search,
-        a: words::word(raw, 8),
-        b: words::word(raw, 9),
-        c: words::word(raw, 10),
+        a: test_words::word(raw, 8),
+        b: test_words::word(raw, 9),
+        c: test_words::word(raw, 10),
     }
 }
 
@@ -129,7 +129,7 @@ fn read_words(raw: &mut [u8], row: &mut [u16], n: usize) -> bool
     if !read_bytes(raw, 2 * n) {
         return false;
     }
-    words::decode(raw, &mut row[0..n]);
+    test_words::decode(raw, &mut row[0..n]);
     true
 }
 

@@ -1,4 +1,4 @@
-// The probe's own limits; what a case may lend stands in `lending::limits`.
+// The probe's own limits; what a case may lend stands in `probe_rows::limits`.
 
 // Words of a case's head.
 pub const HEAD: usize = 11;

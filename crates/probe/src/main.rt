@@ -6,11 +6,11 @@ mod ops;
 
 use input::Head;
 use input::Heading;
-use lending::limits::BYTES;
-use lending::limits::LINKS;
-use lending::limits::PARENTS;
 use limits::CASES;
 use limits::OUT;
+use probe_rows::limits::BYTES;
+use probe_rows::limits::LINKS;
+use probe_rows::limits::PARENTS;
 
 // Whether another case follows, and how much waits to be printed.
 enum Next {

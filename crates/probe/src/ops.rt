@@ -5,16 +5,16 @@ ghost use Prim.Native.Nat.{_≤_};
 ghost use lib.ListN.{length};
 ghost use Rattle.probe.specs.Limits.{isOp, takesBytes};
 use crate::input::Head;
-use answers::changes;
-use answers::checking;
-use answers::maps;
-use answers::routes;
-use answers::single;
-use answers::tables;
 use edition::Change;
-use filing::blocks;
-use filing::files;
-use filing::reading;
+use probe_files::blocks;
+use probe_files::files;
+use probe_files::reading;
+use probe_network::changes;
+use probe_network::checking;
+use probe_network::maps;
+use probe_network::routes;
+use probe_network::single;
+use probe_network::tables;
 
 pub const CHECK: u16 = 1;
 

@@ -12,7 +12,7 @@ use edition::Memory;
 use edition::Refusal;
 use edition::Search;
 use edition::Verdict;
-use words::HEAD;
+use test_words::HEAD;
 
 // Words of a change.
 const CHANGE: usize = 3;
@@ -41,9 +41,9 @@ fn change_at(raw: &[u8], at: usize) -> Change
     requires { ⌜ 2 * (at + 3) ≤ length (now raw) ⌝ }
 {
     Change {
-        link: words::word(raw, at),
-        mark: words::word(raw, at + 1),
-        length: words::word(raw, at + 2),
+        link: test_words::word(raw, at),
+        mark: test_words::word(raw, at + 1),
+        length: test_words::word(raw, at + 2),
     }
 }
 
@@ -153,8 +153,8 @@ fn worked(
 )
     requires { ⌜ 2 * (5 + length (now parents) + length (now links) + 3 * count) ≤ length (now raw) ⌝ }
 {
-    words::decode(&raw[2 * HEAD..], parents);
-    words::decode(&raw[2 * (HEAD + parents.len())..], links);
+    test_words::decode(&raw[2 * HEAD..], parents);
+    test_words::decode(&raw[2 * (HEAD + parents.len())..], links);
     let said = table::table(links, parents, search, entries);
     let Verdict::Taken = said else {
         print_verdict(said);
@@ -167,7 +167,7 @@ fn worked(
 
 // Prints the answer of an input. False, with nothing printed, where it is no whole series within the limits.
 fn answered(raw: &[u8], links: &mut [u16], parents: &mut [u16], entries: &mut [u64]) -> bool {
-    let head = words::head_of(raw);
+    let head = test_words::head_of(raw);
     let n = head.nodes;
     let m = head.links;
     let k = head.count;

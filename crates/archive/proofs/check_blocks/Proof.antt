@@ -4,8 +4,8 @@ use native.Mathlib.Omega.{arith}
 use Prim.Native.Nat.{_-_}
 use Rattle.archive.specs.Parts.{blockCount}
 use Rattle.archive.specs.Reader.{blockRefusal}
-use Rattle.archive.proofs.Files.{few-blocks, count-is, count-end, blocks-room}
-use Rattle.archive.proofs.Judging.{Passed, passed-start, passed-more, passed-all, refused-here}
+use Rattle.archive.proofs.WriterAnswer.{few-blocks, count-is, count-end, blocks-room}
+use Rattle.archive.proofs.BlockChecks.{Passed, passed-start, passed-more, passed-all, refused-here}
 use borrow.Author.Needs.{needs}
 use Rattle.archive.proofs.check_blocks.Statement.{statement}
 use Rattle.archive.proofs.check_blocks.Tie as tie

@@ -1,6 +1,6 @@
 -- `archive::check_head` meets its contract. Assumes nothing.
 use native.Mathlib.Omega.{arith}
-use Rattle.archive.proofs.Heading.{length-refuses, first-there, block-refuses, sizes-decide}
+use Rattle.archive.proofs.HeadChecks.{length-refuses, first-there, block-refuses, sizes-decide}
 use borrow.Author.Needs.{needs}
 use Rattle.archive.proofs.check_head.Statement.{statement}
 use Rattle.archive.proofs.check_head.Tie as tie

@@ -2,7 +2,7 @@
 use native.Mathlib.Omega.{arith}
 use Prim.Native.Nat.{_-_, _*_, _+_}
 use Rattle.archive.proofs.Parting.{part-small}
-use Rattle.archive.proofs.Judging.{part-refusal}
+use Rattle.archive.proofs.BlockChecks.{part-refusal}
 use Rattle.edition.specs.Stored.{blockBytes}
 use borrow.Author.Needs.{needs}
 use Rattle.archive.proofs.check_part.Statement.{statement}

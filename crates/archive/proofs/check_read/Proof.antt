@@ -1,5 +1,5 @@
 -- `archive::check_read` meets its contract. Assumes nothing.
-use Rattle.archive.proofs.Deciding.{head-decides, small-nodes, small-links, length-decides, blocks-there, blocked, blocks-decide, records-decide}
+use Rattle.archive.proofs.ReadOrder.{head-decides, small-nodes, small-links, length-decides, blocks-there, blocked, blocks-decide, records-decide}
 use borrow.Author.Needs.{needs}
 use Rattle.archive.proofs.check_read.Statement.{statement}
 use Rattle.archive.proofs.check_read.Tie as tie

@@ -1,7 +1,7 @@
 -- `archive::check_write` meets its contract. Assumes nothing.
 use Rattle.sound.proofs.Handing.{handed-first}
 use Rattle.archive.specs.Writer.{writeVerdict}
-use Rattle.archive.proofs.Files.{sizes-small, room-judged}
+use Rattle.archive.proofs.WriterAnswer.{sizes-small, room-judged}
 use borrow.Author.Needs.{needs}
 use Rattle.archive.proofs.check_write.Statement.{statement}
 use Rattle.archive.proofs.check_write.Tie as tie

@@ -2,7 +2,7 @@
 use Prim.Native.Nat.{_*_}
 use native.Mathlib.Omega.{arith}
 use mathlib.Core.Path.{ap}
-use Rattle.archive.proofs.Files.{few-blocks}
+use Rattle.archive.proofs.WriterAnswer.{few-blocks}
 use Rattle.edition.specs.Stored.{blockBytes}
 use borrow.Author.Needs.{needs}
 use Rattle.archive.proofs.file_length.Statement.{statement}

@@ -1,7 +1,7 @@
 -- `archive::fill_rows` meets its contract. Assumes nothing.
 use native.Mathlib.Omega.{arith}
 use Rattle.archive.proofs.Holding.{few-nodes, few-links, links-filled, parents-filled, network-is}
-use Rattle.archive.proofs.Receiving.{accepted-blocked, links-room, parents-room, entries-filled}
+use Rattle.archive.proofs.AcceptedRows.{accepted-blocked, links-room, parents-room, entries-filled}
 use borrow.Author.Needs.{needs}
 use Rattle.archive.proofs.fill_rows.Statement.{statement}
 use Rattle.archive.proofs.fill_rows.Tie as tie

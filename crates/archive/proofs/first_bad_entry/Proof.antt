@@ -1,6 +1,6 @@
 -- `archive::first_bad_entry` meets its contract. Assumes nothing.
 use Rattle.archive.proofs.Entries.{stored-bad, placed-by}
-use Rattle.archive.proofs.Files.{few-nodes, links-small}
+use Rattle.archive.proofs.WriterAnswer.{few-nodes, links-small}
 use borrow.Author.Needs.{needs}
 use Rattle.archive.proofs.first_bad_entry.Statement.{statement}
 use Rattle.archive.proofs.first_bad_entry.Tie as tie

@@ -1,6 +1,6 @@
 -- `archive::read` meets its contract. Assumes nothing.
 use mathlib.Core.Path.{sym, _∙_}
-use Rattle.archive.proofs.Receiving.{read-taken, read-refused}
+use Rattle.archive.proofs.AcceptedRows.{read-taken, read-refused}
 use borrow.Author.Needs.{needs}
 use Rattle.archive.proofs.read.Statement.{statement}
 use Rattle.archive.proofs.read.Tie as tie

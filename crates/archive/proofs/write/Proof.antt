@@ -1,6 +1,6 @@
 -- `archive::write` meets its contract. Assumes nothing.
 use mathlib.Core.Path.{sym, _∙_}
-use Rattle.archive.proofs.Files.{write-taken, write-refused}
+use Rattle.archive.proofs.WriterAnswer.{write-taken, write-refused}
 use borrow.Author.Needs.{needs}
 use Rattle.archive.proofs.write.Statement.{statement}
 use Rattle.archive.proofs.write.Tie as tie

@@ -1,7 +1,7 @@
 -- `archive::write_block` meets its contract. Assumes nothing.
 use native.Mathlib.Omega.{arith}
 use Rattle.archive.proofs.Blocks.{block-number, part-held, block-made}
-use Rattle.archive.proofs.Files.{few-nodes, few-links}
+use Rattle.archive.proofs.WriterAnswer.{few-nodes, few-links}
 use Rattle.archive.proofs.Parting.{part-small}
 use borrow.Author.Needs.{needs}
 use Rattle.archive.proofs.write_block.Statement.{statement}

@@ -1,12 +1,12 @@
 -- `archive::write_blocks` meets its contract. Assumes nothing.
 use Prim.Native.Nat.{_-_, _*_, _+_}
-use Rattle.archive.proofs.Filing.{Filing, filing-start, filing-length, filing-room, filing-more, filing-end, part-length}
+use Rattle.archive.proofs.WriterLoop.{Filing, filing-start, filing-length, filing-room, filing-more, filing-end, part-length}
 use native.Mathlib.Omega.{arith}
 use lib.ListN.{length}
 use Rattle.network.specs.Network.{netOf, linksIn}
 use Rattle.archive.specs.Parts.{blockCount}
 use Rattle.archive.specs.Writer.{blockOf}
-use Rattle.archive.proofs.Files.{few-blocks, file-room, rows-sized, nodes-small, links-small, count-is, count-end, file-is}
+use Rattle.archive.proofs.WriterAnswer.{few-blocks, file-room, rows-sized, nodes-small, links-small, count-is, count-end, file-is}
 use Rattle.edition.specs.Stored.{blockBytes}
 use borrow.Author.Needs.{needs}
 use Rattle.archive.proofs.write_blocks.Statement.{statement}

@@ -1,6 +1,6 @@
 -- `archive::write_sound` meets its contract. Assumes nothing.
 use native.Mathlib.Omega.{arith}
-use Rattle.archive.proofs.Files.{write-room, write-numbers, write-tabled, length-is}
+use Rattle.archive.proofs.WriterAnswer.{write-room, write-numbers, write-tabled, length-is}
 use borrow.Author.Needs.{needs}
 use Rattle.archive.proofs.write_sound.Statement.{statement}
 use Rattle.archive.proofs.write_sound.Tie as tie

@@ -1,0 +1,97 @@
+-- What is known of a file that is accepted, and what the reader leaves in the lent rows. Assumes nothing.
+use mathlib.Core.Path.{_≡_, ap, _∙_}
+use mathlib.Core.Bool.{false}
+use mathlib.Core.List.{List, _++_}
+use Prim.Native.Nat.{ℕ, _≤_}
+use native.Mathlib.Omega.{arith}
+use lib.Dec.{ltb}
+use lib.ListN.{length, drop}
+use borrow.Author.Tests.{ltb-false, le-ltb, eqb-true, not-false}
+use Rattle.edition.specs.declared.Refusal.{Refusal}
+use Rattle.edition.specs.declared.Verdict.{Verdict}
+use Rattle.edition.specs.declared.Verdict.the-variants.{Taken, Refused}
+use Rattle.edition.specs.declared.Why.the-variants.{BadLength, NoRoom}
+use Rattle.rows.proofs.Refusing.{head-taken, rest-taken, both-taken, none-left, if-taken, if-passes}
+use Rattle.rows.proofs.Tests.{or3-false}
+use Rattle.entries.specs.Row.{entriesIn, pastEntries}
+use Rattle.network.specs.Network.{Net, linksIn, pastLinks}
+use Rattle.sound.specs.Sound.{netVerdict}
+use Rattle.table.specs.Table.{table, tableVerdict, tableRow}
+use Rattle.archive.specs.declared.Header.{Header}
+use Rattle.archive.specs.declared.ReadAnswer.the-variants.{Is, Not}
+use Rattle.archive.specs.Reader.{nodesRead, linksRead, headRead, linksHeld, parentsHeld, netRead, Rows, tight, headVerdict, restVerdict}
+use Rattle.archive.specs.Reader.{readVerdict, readAnswer, rowsRead}
+use Rattle.archive.specs.Work.{Blocked}
+use Rattle.archive.proofs.Reading.{nodes-read}
+use Rattle.archive.proofs.ReadOrder.{sizes-taken, records-alone}
+
+module _ (file : List ℕ) (rows : Rows) (t : readVerdict file rows ≡ Taken) where
+  head-ok : headVerdict file ≡ Taken
+  unfolding readVerdict
+  head-ok = head-taken _ _ t
+
+  rest-ok : restVerdict file rows ≡ Taken
+  unfolding readVerdict
+  rest-ok = head-taken _ _ (rest-taken _ _ t)
+
+  pub accepted-blocked : (head : Header) → head ≡ headRead file → Blocked file head
+  unfolding restVerdict
+  accepted-blocked head h =
+      record {
+        is = h;
+        sized = sizes-taken file head-ok;
+        long = eqb-true (length file) _ (not-false _ (if-taken _ BadLength 0 (head-taken _ _ rest-ok)));
+      }
+
+  pub accepted-sound : netVerdict (netRead file) ≡ Taken
+  unfolding restVerdict
+  accepted-sound = records-alone file head-ok ∙ head-taken _ _ (rest-taken _ _ (rest-taken _ _ rest-ok))
+
+  loose : tight (nodesRead file) (linksRead file) rows ≡ false
+  unfolding restVerdict
+  loose = if-taken _ NoRoom 0 (head-taken _ _ (rest-taken _ _ (rest-taken _ _ (rest-taken _ _ rest-ok))))
+
+  rooms : (linksRead file ≤ linksIn (rows .links)) × (nodesRead file ≤ length (rows .parents)) × (nodesRead file ≤ entriesIn (rows .entries))
+  unfolding tight
+  rooms =
+      let z = or3-false (ltb (linksIn (rows .links)) (linksRead file)) (ltb (length (rows .parents)) (nodesRead file)) (ltb (entriesIn (rows .entries)) (nodesRead file)) loose in
+      (ltb-false _ _ (z .0), ltb-false _ _ (z .1), ltb-false _ _ (z .2))
+
+  module _ (head : Header) (h : head ≡ headRead file) where
+    nodes-is : head .nodes ≡ nodesRead file
+    unfolding headRead
+    nodes-is = ap (λ (k : Header). k .nodes) h
+
+    links-is : head .links ≡ linksRead file
+    unfolding headRead
+    links-is = ap (λ (k : Header). k .links) h
+
+    pub links-room : head .links ≤ linksIn (rows .links)
+    links-room = omega (arith, links-is, rooms .0)
+
+    pub parents-room : head .nodes ≤ length (rows .parents)
+    parents-room = omega (arith, nodes-is, rooms .1)
+
+  table-fits : tableVerdict (netRead file) (rows .entries) ≡ Taken
+  unfolding tableVerdict
+  table-fits =
+      both-taken _ _ accepted-sound
+      (both-taken _ _ (if-passes _ NoRoom 0 (le-ltb (entriesIn (rows .entries)) (netRead file .nodes) (omega (arith, rooms .2, nodes-read file)))) none-left)
+
+  -- the row of entries that the table leaves
+  pub entries-filled : (g : Net) → g ≡ netRead file → (after : List ℕ) → after ≡ tableRow g (rows .entries) → after ≡ table (netRead file) ++ pastEntries (nodesRead file) (rows .entries)
+  unfolding tableRow
+  entries-filled g e after q =
+      q
+      ∙ (ap (λ (k : Net). tableRow k (rows .entries)) e
+      ∙ (rw table-fits (ap (λ (k : ℕ). table (netRead file) ++ pastEntries k (rows .entries)) (nodes-read file))))
+
+-- the answer and the rows
+module _ (file links parents entries : List ℕ) (v : Verdict) (is : v ≡ readVerdict file (record { links = links; parents = parents; entries = entries })) where
+  pub read-taken : v ≡ Taken → (head : Header) → head ≡ headRead file → (links′ parents′ entries′ : List ℕ) → links′ ≡ linksHeld file ++ pastLinks (linksRead file) links → parents′ ≡ parentsHeld file ++ drop (nodesRead file) parents → entries′ ≡ table (netRead file) ++ pastEntries (nodesRead file) entries → (Is head ≡ readAnswer file (record { links = links; parents = parents; entries = entries })) × (links′ ≡ rowsRead file (record { links = links; parents = parents; entries = entries }) .links) × (parents′ ≡ rowsRead file (record { links = links; parents = parents; entries = entries }) .parents) × (entries′ ≡ rowsRead file (record { links = links; parents = parents; entries = entries }) .entries)
+  unfolding readAnswer rowsRead
+  read-taken t head h links′ parents′ entries′ p q r = (rw (← is, t) (ap Is h), rw (← is, t) p, rw (← is, t) q, rw (← is, t) r)
+
+  pub read-refused : (why : Refusal) → v ≡ Refused why → (Not why ≡ readAnswer file (record { links = links; parents = parents; entries = entries })) × (links ≡ rowsRead file (record { links = links; parents = parents; entries = entries }) .links) × (parents ≡ rowsRead file (record { links = links; parents = parents; entries = entries }) .parents) × (entries ≡ rowsRead file (record { links = links; parents = parents; entries = entries }) .entries)
+  unfolding readAnswer rowsRead
+  read-refused why t = (rw (← is, t), rw (← is, t), rw (← is, t), rw (← is, t))
