@@ -1,7 +1,7 @@
 /*
  * Doeragyeol: an archive of backup routes whose every answer is proved.
  *
- * Six functions over numbers and lent rows. A row is a pointer and then how many numbers it has. Link with
+ * Six functions over numbers and lent rows, and the version. A row is a pointer and then how many numbers it has. Link with
  * libdoeragyeol.a (x86-64 Linux), which `rt staticlib doeragyeol` proves and writes to target/staticlib/. The library
  * calls nothing but memset, keeps nothing between calls, has no heap, and takes less than 100 KiB of stack. Calls on
  * rows of their own may run at the same time.
@@ -36,6 +36,19 @@
 
 #ifdef __cplusplus
 extern "C" {
+#endif
+
+/*
+ * The version of this interface, which a change of it raises. The library has a function of its own for it, whose name ends
+ * with the number; every file that includes this header refers to that name, so what was compiled for another version does
+ * not link.
+ */
+#define DOERAGYEOL_VERSION 1
+
+uint32_t doeragyeol_version_1(void);
+
+#if defined(__GNUC__)
+__attribute__((used)) static uint32_t (*const doeragyeol_made_for)(void) = doeragyeol_version_1;
 #endif
 
 /* The limits, and how long the rows are that hold all that there can be. */

@@ -9,6 +9,10 @@ use Rattle.edition.specs.declared.Why.the-variants.{NoRoom}
 use Rattle.edition.specs.Refusals.{numberOf, made}
 use Rattle.rows.specs.First.{refuseIf, firstly}
 
+-- The version of the interface.
+abbrev pub version : ℕ
+version = 1
+
 -- The largest place that a word holds.
 abbrev pub placeMost : ℕ
 placeMost = 65535

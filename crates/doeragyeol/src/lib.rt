@@ -1,4 +1,5 @@
-// The library for C: six functions over numbers and lent rows. Each answers one word, 0 or the refusal.
+// The library for C: six functions over numbers and lent rows, each of which answers one word, 0 or the refusal; and the
+// version.
 ghost use mathlib.Core.Path.{_≡_};
 ghost use mathlib.Core.List.{[], _∷_};
 ghost use Prim.Native.Nat.{_≤_, min};
@@ -8,7 +9,7 @@ ghost use Rattle.edition.specs.declared.Why.the-variants.{NoRoom};
 ghost use Rattle.edition.specs.Refusals.{refused};
 ghost use Rattle.table.specs.Table.{tableVerdict, tableRow};
 ghost use Rattle.change.specs.Change.{changeVerdict, Lent, changed};
-ghost use Rattle.doeragyeol.specs.Word.{placeMost, wordOf, answered};
+ghost use Rattle.doeragyeol.specs.Word.{version, placeMost, wordOf, answered};
 ghost use Rattle.doeragyeol.specs.Calls.{lentNet, lentRows, checkSaid, sizesRow, mapSaid, wordsRow, openRow, writeSaid, fileRow, lengthRow};
 ghost use Rattle.doeragyeol.specs.Calls.{readSaid, rowsLeft, headerRow};
 use archive::Header;
@@ -21,6 +22,9 @@ use edition::Verdict;
 use edition::Why;
 use map::MapAnswer;
 use sound::Checked;
+
+// The version of the interface: what the header declares. A landing that changes that raises it, here and in the name below.
+const VERSION: u32 = 1;
 
 // The word of a call that is not refused.
 const DONE: u32 = 0;
@@ -105,6 +109,14 @@ fn put_header(row: &mut [u64], head: Header)
     row[1] = head.links as u64;
     row[2] = search.root as u64;
     row[3] = search.depth as u64;
+}
+
+// The version of the interface. The name ends with it, so that a caller made for another version does not link.
+#[no_mangle]
+pub extern "C" fn doeragyeol_version_1() -> u32
+    ensures { λ r. ⌜ r ≡ version ⌝ }
+{
+    VERSION
 }
 
 // The check of a network and its tree. `sizes` gets how many nodes and links there are.

@@ -1,7 +1,9 @@
-//! The library's six functions, as `include/doeragyeol.h` declares them and says what a caller owes.
+//! The library's six functions and its version, as `include/doeragyeol.h` declares them and says what a caller owes.
 
 #[link(name = "doeragyeol", kind = "static")]
 extern "C" {
+    pub fn doeragyeol_version_1() -> u32;
+
     pub fn doeragyeol_check(
         links: *const u16,
         links_length: usize,
