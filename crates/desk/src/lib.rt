@@ -146,8 +146,35 @@ pub fn text_fits(name: &[u8], text: &[u8]) -> bool
     complain(name, b"the text is too long")
 }
 
-// Reads the file, or as much of it as the room holds, and answers how many bytes that is. Where it cannot be opened, that is
-// said.
+// Reads once into the room from a place on, and answers what `libc::read` did: how many bytes, 0 at the file's end, or -1.
+fn read_once(file: i32, room: &mut [u8], at: usize) -> isize {
+    let end = room.len();
+    if end < at {
+        return 0;
+    }
+    libc::read(file, &mut room[at..end])
+}
+
+// Reads until the file ends or the room is full, and answers how many bytes that is, or that a read failed.
+fn read_on(file: i32, room: &mut [u8]) -> Got {
+    let end = room.len();
+    let mut done = 0;
+    while done < end {
+        let got = read_once(file, room, done);
+        if got < 0 {
+            return Got::Not;
+        }
+        let more = io::count(got, &room[done..end]);
+        if more == 0 {
+            return Got::Is(done);
+        }
+        done += more;
+    }
+    Got::Is(done)
+}
+
+// Reads the file, or as much of it as the room holds, and answers how many bytes that is. Where it cannot be opened, or not
+// be read to its end, that is said.
 pub fn read(name: &[u8], room: &mut [u8]) -> Got
     ensures { λ r. ⌜ length (now (room .exit)) ≡ length (now (room .entry)) ⌝ }
 {
@@ -156,9 +183,12 @@ pub fn read(name: &[u8], room: &mut [u8]) -> Got
         os::fail(name);
         return Got::Not;
     }
-    let size = io::read_full(file, room);
+    let got = read_on(file, room);
+    if let Got::Not = got {
+        os::fail(name);
+    }
     libc::close(file);
-    Got::Is(size)
+    got
 }
 
 // Copies a text into the room from a place on, where it fits, and answers the place behind it.
