@@ -221,22 +221,79 @@ fn fill_new(file: i32, part: &[u8], bytes: &[u8]) -> bool {
     false
 }
 
-// Gives the file its name; where that fails, it is said and the file is removed.
-fn name_new(part: &[u8], name: &[u8]) -> bool {
-    if os::rename(part, name) == 0 {
-        return true;
+// Whether nothing stands under a name, no link that leads nowhere either. `readlink` does not follow the name's last part: where
+// there is nothing it fails with ENOENT, where there is something that is no link with EINVAL.
+fn is_free(name: &[u8]) -> bool {
+    let mut path = io::buffer();
+    append(&mut path, 0, name);
+    path[libc::PATH_MAX - 1] = 0;
+    let mut text = [0u8; 1];
+    if libc::readlink(&path, &mut text) >= 0 {
+        return false;
     }
-    os::fail(name);
-    os::unlink(part);
-    false
+    os::errno() == libc::ENOENT
 }
 
-// Makes the file `part` of these bytes and gives it its name.
+// Where the last part of a name begins: behind its last `/`, or at 0 where it has none.
+fn last_part(name: &[u8]) -> usize {
+    let mut i = name.len();
+    while 0 < i {
+        if name[i - 1] == b'/' {
+            return i;
+        }
+        i -= 1;
+    }
+    0
+}
+
+// Waits until a folder is on the disk, and answers whether it is.
+fn sync_folder(folder: &[u8]) -> bool {
+    let file = os::open_read(folder);
+    if file < 0 {
+        return false;
+    }
+    let synced = libc::fsync(file) == 0;
+    libc::close(file);
+    synced
+}
+
+// The same for the folder in which a name stands.
+fn sync_name(name: &[u8]) -> bool {
+    let k = last_part(name);
+    if k == 0 {
+        return sync_folder(b".");
+    }
+    if name.len() < k {
+        return false;
+    }
+    sync_folder(&name[0..k])
+}
+
+// Gives the file its name and waits until that is on the disk. Where it gets no name, that is said and the file is removed.
+fn name_new(part: &[u8], name: &[u8]) -> bool {
+    if os::rename(part, name) != 0 {
+        os::fail(name);
+        os::unlink(part);
+        return false;
+    }
+    if sync_name(name) {
+        return true;
+    }
+    complain(name, b"it is made, but its folder could not be synced")
+}
+
+// Makes the file `part` of these bytes and gives it its name, which is looked for once `part` is there: no other run for this
+// name goes on then.
 fn make(part: &[u8], name: &[u8], bytes: &[u8]) -> bool {
     let file = os::create(part);
     if file < 0 {
         os::fail(part);
         return false;
+    }
+    if !is_free(name) {
+        libc::close(file);
+        os::unlink(part);
+        return complain(name, b"there is a file of this name");
     }
     if fill_new(file, part, bytes) {
         return name_new(part, name);
@@ -244,23 +301,10 @@ fn make(part: &[u8], name: &[u8], bytes: &[u8]) -> bool {
     false
 }
 
-// Whether there is a file of this name.
-fn is_there(name: &[u8]) -> bool {
-    let file = os::open_read(name);
-    if file < 0 {
-        return false;
-    }
-    libc::close(file);
-    true
-}
-
 // Makes a new file of these bytes and answers whether it did: first under its name with `.part` behind it, then by a rename.
 fn write_bytes(name: &[u8], bytes: &[u8]) -> bool {
     if Desk::NAME < name.len() {
         return complain(name, b"the name is too long");
-    }
-    if is_there(name) {
-        return complain(name, b"there is a file of this name");
     }
     let mut room = [0u8; Desk::NAME + 5];
     let named = append(&mut room, 0, name);
@@ -272,7 +316,7 @@ fn write_bytes(name: &[u8], bytes: &[u8]) -> bool {
 }
 
 // Makes a new file of the first bytes of a row, as many as `size`, and answers whether it did, which it does of no more bytes
-// than the row has. No file of the name is ever half written; one that is there and can be opened stays, and it is said.
+// than the row has. No file of the name is ever half written; whatever stands under the name stays, and it is said.
 pub fn write_new(name: &[u8], row: &[u8], size: usize) -> bool
     ensures { λ r. ⌜ (r ≡ true → size ≤ length (now (row .entry))) ⌝ }
 {
