@@ -191,6 +191,21 @@ pub fn read(name: &[u8], room: &mut [u8]) -> Got
     got
 }
 
+// Prints the first bytes of a text, as many as `size`, on standard output and answers whether it did, which it does of no more
+// bytes than the text has. Where they cannot all be written, that is said.
+pub fn print(text: &[u8], size: usize) -> bool
+    ensures { λ r. ⌜ (r ≡ true → size ≤ length (now (text .entry))) ⌝ }
+{
+    if text.len() < size {
+        return complain(b"standard output", b"there are fewer bytes than its length");
+    }
+    if io::write_all(libc::STDOUT_FILENO, &text[0..size]) {
+        return true;
+    }
+    os::fail(b"standard output");
+    false
+}
+
 // Copies a text into the room from a place on, where it fits, and answers the place behind it.
 fn append(room: &mut [u8], at: usize, text: &[u8]) -> usize {
     if room.len() < at {
@@ -282,9 +297,18 @@ fn name_new(part: &[u8], name: &[u8]) -> bool {
     complain(name, b"it is made, but its folder could not be synced")
 }
 
+// Gives the file its name once the first bytes of `out` are printed; where they are not, it is removed.
+fn print_and_name(part: &[u8], name: &[u8], out: &[u8], waits: usize) -> bool {
+    if print(out, waits) {
+        return name_new(part, name);
+    }
+    os::unlink(part);
+    false
+}
+
 // Makes the file `part` of these bytes and gives it its name, which is looked for once `part` is there: no other run for this
 // name goes on then.
-fn make(part: &[u8], name: &[u8], bytes: &[u8]) -> bool {
+fn make(part: &[u8], name: &[u8], bytes: &[u8], out: &[u8], waits: usize) -> bool {
     let file = os::create(part);
     if file < 0 {
         os::fail(part);
@@ -296,13 +320,13 @@ fn make(part: &[u8], name: &[u8], bytes: &[u8]) -> bool {
         return complain(name, b"there is a file of this name");
     }
     if fill_new(file, part, bytes) {
-        return name_new(part, name);
+        return print_and_name(part, name, out, waits);
     }
     false
 }
 
 // Makes a new file of these bytes and answers whether it did: first under its name with `.part` behind it, then by a rename.
-fn write_bytes(name: &[u8], bytes: &[u8]) -> bool {
+fn write_bytes(name: &[u8], bytes: &[u8], out: &[u8], waits: usize) -> bool {
     if Desk::NAME < name.len() {
         return complain(name, b"the name is too long");
     }
@@ -312,16 +336,17 @@ fn write_bytes(name: &[u8], bytes: &[u8]) -> bool {
     if room.len() < ended {
         return false;
     }
-    make(&room[0..ended], name, bytes)
+    make(&room[0..ended], name, bytes, out, waits)
 }
 
 // Makes a new file of the first bytes of a row, as many as `size`, and answers whether it did, which it does of no more bytes
-// than the row has. No file of the name is ever half written; whatever stands under the name stays, and it is said.
-pub fn write_new(name: &[u8], row: &[u8], size: usize) -> bool
+// than the row has. No file of the name is ever half written; whatever stands under the name stays, and it is said. The first
+// bytes of `out`, as many as `waits`, are printed before the file gets its name: where that fails there is no file.
+pub fn write_new(name: &[u8], row: &[u8], size: usize, out: &[u8], waits: usize) -> bool
     ensures { λ r. ⌜ (r ≡ true → size ≤ length (now (row .entry))) ⌝ }
 {
     if row.len() < size {
         return complain(name, b"there are fewer bytes than its length");
     }
-    write_bytes(name, &row[0..size])
+    write_bytes(name, &row[0..size], out, waits)
 }

@@ -11,8 +11,9 @@ use edition::Memory;
 use edition::Search;
 use network::Link;
 
-// Bytes of the buffer that what is printed waits in.
-const OUT: usize = 8192;
+// Bytes of the buffer that what is printed waits in: it holds the title and the longest line of every node and link, so that
+// all is printed at once and it is seen whether it was.
+const OUT: usize = 80 * (2 + Memory::NODES + Memory::LINKS);
 
 // The measure that a word names, where it names one.
 enum Asked {
@@ -178,15 +179,15 @@ fn put_links(
     waits
 }
 
-// Draws an accepted file.
-fn draw(header: Header, links: &[u16], parents: &[u16], entries: &[u64], measure: Measure) {
+// Draws an accepted file, and answers whether all of it was printed.
+fn draw(header: Header, links: &[u16], parents: &[u16], entries: &[u64], measure: Measure) -> bool {
     let mut out = [0u8; OUT];
     let held = rows::first(parents, header.nodes);
     let titled = put_title(&mut out, 0, header.search, measure);
     let nodes = put_nodes(&mut out, titled, entries, header.nodes, measure);
     let drawn = put_links(&mut out, nodes, links, held, entries, header.links, measure);
     let ended = output::put(&mut out, drawn, b"}\n");
-    output::flush(&out, ended);
+    desk::print(&out, ended)
 }
 
 // Draws the file in the first bytes of a row, or says why it is refused.
@@ -195,10 +196,7 @@ fn draw_file(name: &[u8], file: &[u8], measure: Measure) -> bool {
     let mut parents = [0u16; Memory::NODES];
     let mut entries = [0u64; Memory::ENTRY_ROW];
     match archive::read(file, &mut links, &mut parents, &mut entries) {
-        ReadAnswer::Is(header) => {
-            draw(header, &links, &parents, &entries, measure);
-            true
-        }
+        ReadAnswer::Is(header) => draw(header, &links, &parents, &entries, measure),
         ReadAnswer::Not(refusal) => desk::refused(name, refusal),
     }
 }

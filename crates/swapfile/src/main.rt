@@ -280,7 +280,7 @@ fn say_lack(name: &[u8], line: usize, told: Told) -> bool {
 fn store(from: &[u8], to: &[u8], links: &[u16], parents: &[u16], search: Search) -> bool {
     let mut file = [0u8; Desk::FILE];
     match archive::write(links, parents, search, &mut file) {
-        WriteAnswer::Is(size) => desk::write_new(to, &file, size),
+        WriteAnswer::Is(size) => desk::write_new(to, &file, size, b"", 0),
         WriteAnswer::Not(refusal) => desk::refused(from, refusal),
     }
 }

@@ -18,8 +18,9 @@ use text::Cursor;
 use text::Line;
 use text::Word;
 
-// Bytes of the buffer that what is printed waits in.
-const OUT: usize = 8192;
+// Bytes of the buffer that what is printed waits in: it holds the two longest lines of every node, 73 bytes each, so that
+// nothing is printed before the new file stands.
+const OUT: usize = 2 * 80 * Memory::NODES;
 
 // Whether a word says `up` or `down`.
 fn is_service(word: u32) -> bool {
@@ -161,23 +162,23 @@ fn put_all(out: &mut [u8], parents: &[u16], old: &[u64], new: &[u64]) -> usize {
     waits
 }
 
-// Lists the entries that changed.
-fn list(parents: &[u16], old: &[u64], new: &[u64]) {
-    let mut out = [0u8; OUT];
-    let waits = put_all(&mut out, parents, old, new);
-    output::flush(&out, waits);
-}
-
-// Makes the file of the network.
-fn store(to: &[u8], links: &[u16], parents: &[u16], search: Search) -> bool {
+// Makes the file of the network and prints the first bytes of `out`.
+fn store(
+    to: &[u8],
+    links: &[u16],
+    parents: &[u16],
+    search: Search,
+    out: &[u8],
+    waits: usize,
+) -> bool {
     let mut file = [0u8; Desk::FILE];
     match archive::write(links, parents, search, &mut file) {
-        WriteAnswer::Is(size) => desk::write_new(to, &file, size),
+        WriteAnswer::Is(size) => desk::write_new(to, &file, size, out, waits),
         WriteAnswer::Not(refusal) => desk::refused(to, refusal),
     }
 }
 
-// Makes the corrections in the rows, the file of what they are then, and the list.
+// Makes the corrections in the rows and the file of what they are then, and lists the entries that changed.
 fn correct(
     by: &[u8],
     to: &[u8],
@@ -191,11 +192,9 @@ fn correct(
     if !take_lines(by, text, links, parents, search, entries) {
         return false;
     }
-    if !store(to, links, parents, search) {
-        return false;
-    }
-    list(parents, old, entries);
-    true
+    let mut out = [0u8; OUT];
+    let waits = put_all(&mut out, parents, old, entries);
+    store(to, links, parents, search, &out, waits)
 }
 
 // The same, with as much of the rows as the header says.

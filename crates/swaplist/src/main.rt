@@ -8,8 +8,9 @@ use edition::Refusal;
 use edition::Why;
 use map::MapAnswer;
 
-// Bytes of the buffer that what is printed waits in.
-const OUT: usize = 8192;
+// Bytes of the buffer that what is printed waits in: it holds the first line, the longest line of every node and the last, so
+// that all is printed at once and it is seen whether it was.
+const OUT: usize = 80 * (2 + Memory::NODES);
 
 // Prints what an accepted file holds, and its unprotected map.
 fn put_accepted(
@@ -58,11 +59,24 @@ fn answer(row: &[u8], size: usize, out: &mut [u8]) -> usize {
     list(&row[0..size], out, 0)
 }
 
+// Prints the first bytes of a row; where they cannot all be written, that is said on standard error.
+fn print(row: &[u8], size: usize) {
+    if size <= row.len() {
+        if io::write_all(libc::STDOUT_FILENO, &row[0..size]) {
+            return;
+        }
+    }
+    io::write_all(
+        libc::STDERR_FILENO,
+        b"standard output: the listing could not be written\n",
+    );
+}
+
 // One byte more than is listed is read, by which a longer file is seen.
 fn main() {
     let mut row = [0u8; listing::LISTED_BYTES + 1];
     let mut out = [0u8; OUT];
     let size = io::read_full(libc::STDIN_FILENO, &mut row);
     let waits = answer(&row, size, &mut out);
-    output::flush(&out, waits);
+    print(&out, waits);
 }
