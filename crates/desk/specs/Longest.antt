@@ -8,4 +8,4 @@ longestFile = blockLimit * blockBytes
 
 -- The longest text.
 abbrev pub longestText : ℕ
-longestText = 131072
+longestText = 524288

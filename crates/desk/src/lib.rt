@@ -20,7 +20,7 @@ impl Desk {
 
     pub const FILE: usize = Edition::FILE_BYTES;
 
-    pub const TEXT: usize = 131072;
+    pub const TEXT: usize = 524288;
 }
 
 // How many bytes were read, or that the file could not be read.
@@ -136,6 +136,17 @@ pub fn file_fits(name: &[u8], size: usize) -> bool
     )
 }
 
+// Says that a text is longer than the longest.
+fn text_too_long(name: &[u8]) -> bool
+    ensures { λ r. ⌜ r ≡ false ⌝ }
+{
+    say(name);
+    say(b": the text is too long: more than ");
+    say_number(Desk::TEXT as u64);
+    say(b" bytes\n");
+    false
+}
+
 // Whether a text is within the longest; where it is not, that is said.
 pub fn text_fits(name: &[u8], text: &[u8]) -> bool
     ensures { λ r. ⌜ r ≡ leb (length (now (text .entry))) longestText ⌝ }
@@ -143,7 +154,7 @@ pub fn text_fits(name: &[u8], text: &[u8]) -> bool
     if text.len() <= Desk::TEXT {
         return true;
     }
-    complain(name, b"the text is too long")
+    text_too_long(name)
 }
 
 // Reads once into the room from a place on, and answers what `libc::read` did: how many bytes, 0 at the file's end, or -1.

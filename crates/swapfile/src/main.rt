@@ -321,7 +321,7 @@ fn take_text(from: &[u8], to: &[u8], text: &[u8], links: &mut [u16], parents: &m
         depth: Word::NONE,
         lack: Lack::NOTHING,
     };
-    let mut cursor = Cursor::begin();
+    let mut cursor = Cursor::begin(text);
     while cursor.at < text.len() {
         let step = cursor.next_line(text);
         told = take_line(step.line, told, links, parents);

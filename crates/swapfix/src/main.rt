@@ -99,7 +99,7 @@ fn take_lines(
     if !desk::text_fits(name, text) {
         return false;
     }
-    let mut cursor = Cursor::begin();
+    let mut cursor = Cursor::begin(text);
     while cursor.at < text.len() {
         let step = cursor.next_line(text);
         let line = step.line;

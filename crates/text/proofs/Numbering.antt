@@ -1,18 +1,29 @@
 -- Lines one after the other: the next one begins behind this one, and the number that a cursor carries is that of its line, one
 -- more than how many lines end before it. Assumes nothing.
-use mathlib.Core.Path.{_≡_, refl, _∙_}
-use mathlib.Core.Bool.{Bool, true, false}
-use mathlib.Core.List.{List}
+use mathlib.Core.Path.{_≡_, refl, sym, _∙_}
+use mathlib.Core.Bool.{Bool, true, false, cond, not, true≢false}
+use mathlib.Core.List.{List, [], _∷_}
 use Prim.Native.Nat.{ℕ, zero, suc, _+_, _-_, _<_, _≤_, min}
 use native.Mathlib.Omega.{arith}
-use lib.Dec.{eqb}
-use lib.ListN.{length}
-use Rattle.rows.specs.Count.{sumTo, onlyIf}
+use lib.Dec.{eqb, leb}
+use lib.ListN.{length, getD}
+use borrow.Author.Tests.{eqb-true, leb-true}
+use Rattle.rows.proofs.Best.{some-none}
+use Rattle.rows.proofs.Tests.{and-left, and-right}
+use Rattle.rows.specs.Count.{sumTo, someTo, onlyIf}
 use Rattle.rows.proofs.Counting.{sum-bound}
 use Rattle.text.specs.declared.Cursor.{Cursor}
 use Rattle.text.specs.declared.Step.{Step}
-use Rattle.text.specs.Words.{newline, byteAt, seekFrom, lineEnd, lineNumber, firstLine, nextLine}
+use Rattle.text.specs.Words.{newline, byteAt, seekFrom, lineEnd, lineNumber, isNamed, firstLine, nextLine}
 use Rattle.text.proofs.Scanning.{seek-here, seek-past, seek-end}
+
+not-true : (b : Bool) → not b ≡ false → b ≡ true
+not-true true e = refl
+not-true false e = absurd (true≢false e)
+
+not-false : (b : Bool) → not b ≡ true → b ≡ false
+not-false false e = refl
+not-false true e = absurd (true≢false (sym e))
 
 -- How many of the places below k pass.
 abbrev passing : (ℕ → Bool) → ℕ → ℕ
@@ -66,10 +77,49 @@ counts-on p at end stop n s e l =
     rw (behind, passed p end (s .hit (omega (arith, s .low))), s .flat)
     (omega (arith, rw here at e, few-pass p at, s .low))
 
--- the first line carries its number, and so does the next one of a line that does, where the text has it
-pub number-first : (text : List ℕ) → firstLine .number ≡ lineNumber text (firstLine .at)
+-- the byte order mark
+abbrev mark : List ℕ
+mark = 239 ∷ 187 ∷ 191 ∷ []
+
+-- Is a byte of a text not that of the mark?
+abbrev unmarked : List ℕ → ℕ → Bool
+unmarked text i = not (eqb (byteAt text i) (getD mark i newline))
+
+-- a text that begins with the mark has its three bytes, and no line ends at one of them
+mark-at : (text : List ℕ) → isNamed text 0 3 mark ≡ true → (i : ℕ) → i < 3 → byteAt text i ≡ getD mark i newline
+unfolding isNamed someTo
+mark-at text e i l =
+    let none : someTo (unmarked text) 3 ≡ false = not-false _ (and-right (leb 3 (length text)) (not (someTo (unmarked text) 3)) e) in
+    eqb-true (byteAt text i) (getD mark i newline) (not-true _ (some-none (unmarked text) 3 none i l))
+
+mark-within : (text : List ℕ) → isNamed text 0 3 mark ≡ true → 3 ≤ length text
+unfolding isNamed someTo
+mark-within text e = leb-true 3 (length text) (and-left (leb 3 (length text)) (not (someTo (unmarked text) 3)) e)
+
+mark-goes-on : (text : List ℕ) → isNamed text 0 3 mark ≡ true → (i : ℕ) → i < 3 → eqb (getD mark i newline) newline ≡ false → ends text i ≡ false
+mark-goes-on text e i l f = rw (mark-at text e i l) f
+
+mark-one : (text : List ℕ) → isNamed text 0 3 mark ≡ true → 1 ≡ lineNumber text 3
 unfolding lineNumber sumTo
-number-first text = let none : min 0 (length text) ≡ 0 = omega arith in rw none
+mark-one text e =
+    let all : min 3 (length text) ≡ 3 = omega (arith, mark-within text e) in
+    let first = not-passed (ends text) 0 (mark-goes-on text e 0 (omega arith) refl) in
+    let second = not-passed (ends text) 1 (mark-goes-on text e 1 (omega arith) refl) in
+    let third = not-passed (ends text) 2 (mark-goes-on text e 2 (omega arith) refl) in
+    rw all (omega (arith, first, second, third))
+
+start-one : (text : List ℕ) → 1 ≡ lineNumber text 0
+unfolding lineNumber sumTo
+start-one text = let none : min 0 (length text) ≡ 0 = omega arith in rw none
+
+-- the first line carries its number, and so does the next one of a line that does, where the text has it
+pub number-first : (text : List ℕ) → firstLine text .number ≡ lineNumber text (firstLine text .at)
+unfolding firstLine
+number-first text = go (isNamed text 0 3 mark) refl
+  where
+    go : (b : Bool) → isNamed text 0 3 mark ≡ b → 1 ≡ lineNumber text (cond (isNamed text 0 3 mark) 3 0)
+    go true e = rw e (mark-one text e)
+    go false e = rw e (start-one text)
 
 module _ (text : List ℕ) (c : Cursor) where
   -- the next line begins further on: less of the text is left

@@ -139,9 +139,9 @@ lineOf text at end =
 unfoldable pub lineNumber : List ℕ → ℕ → ℕ
 lineNumber text at = sumTo (λ i. onlyIf (eqb (byteAt text i) newline) 1) (min at (length text)) + 1
 
--- The first line.
-abbrev pub firstLine : Cursor
-firstLine = record { at = 0; number = 1 }
+-- The first line, which begins behind a byte order mark.
+unfoldable pub firstLine : List ℕ → Cursor
+firstLine text = record { at = cond (isNamed text 0 3 (239 ∷ 187 ∷ 191 ∷ [])) 3 0; number = 1 }
 
 -- What a line says, and the line behind it. No line of a text has a number over one more than the text's length.
 unfoldable pub nextLine : List ℕ → Cursor → Step

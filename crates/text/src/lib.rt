@@ -294,10 +294,13 @@ fn within(text: &[u8], n: usize) -> usize
 }
 
 impl Cursor {
-    // The first line.
-    pub fn begin() -> Cursor
-        ensures { λ r. ⌜ r ≡ firstLine ⌝ }
+    // The first line, which begins behind a byte order mark.
+    pub fn begin(text: &[u8]) -> Cursor
+        ensures { λ r. ⌜ r ≡ firstLine (now (text .entry)) ⌝ }
     {
+        if is_named(text, 0, 3, b"\xef\xbb\xbf") {
+            return Cursor { at: 3, number: 1 };
+        }
         Cursor { at: 0, number: 1 }
     }
 
