@@ -21,7 +21,15 @@ line-with kind a b c d e rest = record { kind = kind; a = a; b = b; c = c; d = d
 
 -- the seven words that are found one after the other, each from where the last one ends, are the line's
 module _ (text : List ℕ) (at end : ℕ) where
-  pub line-is : (kind a b c d e rest s1 s2 s3 s4 s5 s6 : ℕ) → kind ≡ nextValue text end at → s1 ≡ nextEnd text end at → a ≡ nextValue text end s1 → s2 ≡ nextEnd text end s1 → b ≡ nextValue text end s2 → s3 ≡ nextEnd text end s2 → c ≡ nextValue text end s3 → s4 ≡ nextEnd text end s3 → d ≡ nextValue text end s4 → s5 ≡ nextEnd text end s4 → e ≡ nextValue text end s5 → s6 ≡ nextEnd text end s5 → rest ≡ nextValue text end s6 → line-with kind a b c d e rest ≡ lineOf text at end
+  pub line-is : (kind a b c d e rest s1 s2 s3 s4 s5 s6 : ℕ)
+      → kind ≡ nextValue text end at → s1 ≡ nextEnd text end at
+      → a ≡ nextValue text end s1 → s2 ≡ nextEnd text end s1
+      → b ≡ nextValue text end s2 → s3 ≡ nextEnd text end s2
+      → c ≡ nextValue text end s3 → s4 ≡ nextEnd text end s3
+      → d ≡ nextValue text end s4 → s5 ≡ nextEnd text end s4
+      → e ≡ nextValue text end s5 → s6 ≡ nextEnd text end s5
+      → rest ≡ nextValue text end s6
+      → line-with kind a b c d e rest ≡ lineOf text at end
   unfolding lineOf
   line-is kind a b c d e rest s1 s2 s3 s4 s5 s6 k0 p1 a1 q2 b2 q3 c3 q4 d4 q5 e5 q6 r6 =
       let value = nextValue text end in

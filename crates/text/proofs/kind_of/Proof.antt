@@ -24,7 +24,10 @@ is-named-requires-2 c κs = search needs
 
 returns-2 : tie.Need-returns-2
 unfolding kindOf
-returns-2 c = if-not _ _ _ _ (sym (c .before .before .before .before .is-named .ensures) ∙ c .before .before .before .if1 .left) (if-so _ _ _ (sym (c .before .is-named2 .ensures) ∙ c .if2 .taken))
+returns-2 c =
+    let if1 = c .before .before .before .if1 in
+    let is-named = c .before .before .before .before .is-named in
+    if-not _ _ _ _ (sym (is-named .ensures) ∙ if1 .left) (if-so _ _ _ (sym (c .before .is-named2 .ensures) ∙ c .if2 .taken))
 
 slice-aggregate-is-named-3 : tie.Need-slice-aggregate-is-named-3
 slice-aggregate-is-named-3 c = search needs
@@ -34,7 +37,12 @@ is-named-requires-3 c κs = search needs
 
 returns-3 : tie.Need-returns-3
 unfolding kindOf
-returns-3 c = if-not _ _ _ _ (sym (c .before .before .before .before .before .before .before .is-named .ensures) ∙ c .before .before .before .before .before .before .if1 .left) (if-not _ _ _ _ (sym (c .before .before .before .before .is-named2 .ensures) ∙ c .before .before .before .if2 .left) (if-so _ _ _ (sym (c .before .is-named3 .ensures) ∙ c .if3 .taken)))
+returns-3 c =
+    let if2 = c .before .before .before .if2 in
+    let is-named2 = c .before .before .before .before .is-named2 in
+    let if1 = c .before .before .before .before .before .before .if1 in
+    let is-named = c .before .before .before .before .before .before .before .is-named in
+    if-not _ _ _ _ (sym (is-named .ensures) ∙ if1 .left) (if-not _ _ _ _ (sym (is-named2 .ensures) ∙ if2 .left) (if-so _ _ _ (sym (c .before .is-named3 .ensures) ∙ c .if3 .taken)))
 
 slice-aggregate-is-named-4 : tie.Need-slice-aggregate-is-named-4
 slice-aggregate-is-named-4 c = search needs
@@ -44,11 +52,25 @@ is-named-requires-4 c κs = search needs
 
 returns-4 : tie.Need-returns-4
 unfolding kindOf
-returns-4 c = if-not _ _ _ _ (sym (c .before .before .before .before .before .before .before .before .before .before .is-named .ensures) ∙ c .before .before .before .before .before .before .before .before .before .if1 .left) (if-not _ _ _ _ (sym (c .before .before .before .before .before .before .before .is-named2 .ensures) ∙ c .before .before .before .before .before .before .if2 .left) (if-not _ _ _ _ (sym (c .before .before .before .before .is-named3 .ensures) ∙ c .before .before .before .if3 .left) (if-so _ _ _ (sym (c .before .is-named4 .ensures) ∙ c .if4 .taken))))
+returns-4 c =
+    let if3 = c .before .before .before .if3 in
+    let is-named3 = c .before .before .before .before .is-named3 in
+    let if2 = c .before .before .before .before .before .before .if2 in
+    let is-named2 = c .before .before .before .before .before .before .before .is-named2 in
+    let if1 = c .before .before .before .before .before .before .before .before .before .if1 in
+    let is-named = c .before .before .before .before .before .before .before .before .before .before .is-named in
+    if-not _ _ _ _ (sym (is-named .ensures) ∙ if1 .left) (if-not _ _ _ _ (sym (is-named2 .ensures) ∙ if2 .left) (if-not _ _ _ _ (sym (is-named3 .ensures) ∙ if3 .left) (if-so _ _ _ (sym (c .before .is-named4 .ensures) ∙ c .if4 .taken))))
 
 returns-5 : tie.Need-returns-5
 unfolding kindOf
-returns-5 c = if-not _ _ _ _ (sym (c .before .before .before .before .before .before .before .before .before .before .is-named .ensures) ∙ c .before .before .before .before .before .before .before .before .before .if1 .left) (if-not _ _ _ _ (sym (c .before .before .before .before .before .before .before .is-named2 .ensures) ∙ c .before .before .before .before .before .before .if2 .left) (if-not _ _ _ _ (sym (c .before .before .before .before .is-named3 .ensures) ∙ c .before .before .before .if3 .left) (if-not _ _ _ _ (sym (c .before .is-named4 .ensures) ∙ c .if4 .left) (refl))))
+returns-5 c =
+    let if3 = c .before .before .before .if3 in
+    let is-named3 = c .before .before .before .before .is-named3 in
+    let if2 = c .before .before .before .before .before .before .if2 in
+    let is-named2 = c .before .before .before .before .before .before .before .is-named2 in
+    let if1 = c .before .before .before .before .before .before .before .before .before .if1 in
+    let is-named = c .before .before .before .before .before .before .before .before .before .before .is-named in
+    if-not _ _ _ _ (sym (is-named .ensures) ∙ if1 .left) (if-not _ _ _ _ (sym (is-named2 .ensures) ∙ if2 .left) (if-not _ _ _ _ (sym (is-named3 .ensures) ∙ if3 .left) (if-not _ _ _ _ (sym (c .before .is-named4 .ensures) ∙ c .if4 .left) (refl))))
 
 pub kind-of-spec : {M : Type 1} → statement M
 kind-of-spec =

@@ -26,7 +26,14 @@ next-requires-7 : tie.Need-next-requires-7
 next-requires-7 c κs = search needs
 
 returns : tie.Need-returns
-returns c = line-is _ _ _ _ _ _ _ _ _ _ _ _ _ _ _ _ (c .before .before .before .before .before .before .next .ensures .0) (c .before .before .before .before .before .before .next .ensures .1) (c .before .before .before .before .before .next2 .ensures .0) (c .before .before .before .before .before .next2 .ensures .1) (c .before .before .before .before .next3 .ensures .0) (c .before .before .before .before .next3 .ensures .1) (c .before .before .before .next4 .ensures .0) (c .before .before .before .next4 .ensures .1) (c .before .before .next5 .ensures .0) (c .before .before .next5 .ensures .1) (c .before .next6 .ensures .0) (c .before .next6 .ensures .1) (c .next7 .ensures .0)
+returns c =
+    let next6 = c .before .next6 in
+    let next5 = c .before .before .next5 in
+    let next4 = c .before .before .before .next4 in
+    let next3 = c .before .before .before .before .next3 in
+    let next2 = c .before .before .before .before .before .next2 in
+    let next = c .before .before .before .before .before .before .next in
+    line-is _ _ _ _ _ _ _ _ _ _ _ _ _ _ _ _ (next .ensures .0) (next .ensures .1) (next2 .ensures .0) (next2 .ensures .1) (next3 .ensures .0) (next3 .ensures .1) (next4 .ensures .0) (next4 .ensures .1) (next5 .ensures .0) (next5 .ensures .1) (next6 .ensures .0) (next6 .ensures .1) (c .next7 .ensures .0)
 
 pub line-of-spec : {M : Type 1} → statement M
 line-of-spec =

@@ -24,7 +24,10 @@ is-named-requires-2 c κs = search needs
 
 returns-2 : tie.Need-returns-2
 unfolding nameOf
-returns-2 c = if-not _ _ _ _ (sym (c .before .before .before .before .is-named .ensures) ∙ c .before .before .before .if1 .left) (if-so _ _ _ (sym (c .before .is-named2 .ensures) ∙ c .if2 .taken))
+returns-2 c =
+    let if1 = c .before .before .before .if1 in
+    let is-named = c .before .before .before .before .is-named in
+    if-not _ _ _ _ (sym (is-named .ensures) ∙ if1 .left) (if-so _ _ _ (sym (c .before .is-named2 .ensures) ∙ c .if2 .taken))
 
 slice-aggregate-is-named-3 : tie.Need-slice-aggregate-is-named-3
 slice-aggregate-is-named-3 c = search needs
@@ -34,14 +37,24 @@ is-named-requires-3 c κs = search needs
 
 returns-3 : tie.Need-returns-3
 unfolding nameOf
-returns-3 c = if-not _ _ _ _ (sym (c .before .before .before .before .before .before .before .is-named .ensures) ∙ c .before .before .before .before .before .before .if1 .left) (if-not _ _ _ _ (sym (c .before .before .before .before .is-named2 .ensures) ∙ c .before .before .before .if2 .left) (if-so _ _ _ (sym (c .before .is-named3 .ensures) ∙ c .if3 .taken)))
+returns-3 c =
+    let if2 = c .before .before .before .if2 in
+    let is-named2 = c .before .before .before .before .is-named2 in
+    let if1 = c .before .before .before .before .before .before .if1 in
+    let is-named = c .before .before .before .before .before .before .before .is-named in
+    if-not _ _ _ _ (sym (is-named .ensures) ∙ if1 .left) (if-not _ _ _ _ (sym (is-named2 .ensures) ∙ if2 .left) (if-so _ _ _ (sym (c .before .is-named3 .ensures) ∙ c .if3 .taken)))
 
 kind-of-requires : tie.Need-kind-of-requires
 kind-of-requires c κs = search needs
 
 returns-4 : tie.Need-returns-4
 unfolding nameOf
-returns-4 c = if-not _ _ _ _ (sym (c .before .before .before .before .before .before .before .before .is-named .ensures) ∙ c .before .before .before .before .before .before .before .if1 .left) (if-not _ _ _ _ (sym (c .before .before .before .before .before .is-named2 .ensures) ∙ c .before .before .before .before .if2 .left) (if-not _ _ _ _ (sym (c .before .before .is-named3 .ensures) ∙ c .before .if3 .left) (c .kind-of .ensures)))
+returns-4 c =
+    let if2 = c .before .before .before .before .if2 in
+    let is-named2 = c .before .before .before .before .before .is-named2 in
+    let if1 = c .before .before .before .before .before .before .before .if1 in
+    let is-named = c .before .before .before .before .before .before .before .before .is-named in
+    if-not _ _ _ _ (sym (is-named .ensures) ∙ if1 .left) (if-not _ _ _ _ (sym (is-named2 .ensures) ∙ if2 .left) (if-not _ _ _ _ (sym (c .before .before .is-named3 .ensures) ∙ c .before .if3 .left) (c .kind-of .ensures)))
 
 pub name-of-spec : {M : Type 1} → statement M
 name-of-spec =
