@@ -54,7 +54,9 @@ module _ (file : List ℕ) (rows : Rows) (t : readVerdict file rows ≡ Taken) w
   rooms : (linksRead file ≤ linksIn (rows .links)) × (nodesRead file ≤ length (rows .parents)) × (nodesRead file ≤ entriesIn (rows .entries))
   unfolding tight
   rooms =
-      let z = or3-false (ltb (linksIn (rows .links)) (linksRead file)) (ltb (length (rows .parents)) (nodesRead file)) (ltb (entriesIn (rows .entries)) (nodesRead file)) loose in
+      let z =
+      or3-false (ltb (linksIn (rows .links)) (linksRead file)) (ltb (length (rows .parents)) (nodesRead file))
+      (ltb (entriesIn (rows .entries)) (nodesRead file)) loose in
       (ltb-false _ _ (z .0), ltb-false _ _ (z .1), ltb-false _ _ (z .2))
 
   module _ (head : Header) (h : head ≡ headRead file) where
@@ -79,7 +81,10 @@ module _ (file : List ℕ) (rows : Rows) (t : readVerdict file rows ≡ Taken) w
       (both-taken _ _ (if-passes _ NoRoom 0 (le-ltb (entriesIn (rows .entries)) (netRead file .nodes) (omega (arith, rooms .2, nodes-read file)))) none-left)
 
   -- the row of entries that the table leaves
-  pub entries-filled : (g : Net) → g ≡ netRead file → (after : List ℕ) → after ≡ tableRow g (rows .entries) → after ≡ table (netRead file) ++ pastEntries (nodesRead file) (rows .entries)
+  pub entries-filled :
+      (g : Net)
+      → g ≡ netRead file → (after : List ℕ) → after ≡ tableRow g (rows .entries)
+      → after ≡ table (netRead file) ++ pastEntries (nodesRead file) (rows .entries)
   unfolding tableRow
   entries-filled g e after q =
       q
@@ -88,10 +93,25 @@ module _ (file : List ℕ) (rows : Rows) (t : readVerdict file rows ≡ Taken) w
 
 -- the answer and the rows
 module _ (file links parents entries : List ℕ) (v : Verdict) (is : v ≡ readVerdict file (record { links = links; parents = parents; entries = entries })) where
-  pub read-taken : v ≡ Taken → (head : Header) → head ≡ headRead file → (links′ parents′ entries′ : List ℕ) → links′ ≡ linksHeld file ++ pastLinks (linksRead file) links → parents′ ≡ parentsHeld file ++ drop (nodesRead file) parents → entries′ ≡ table (netRead file) ++ pastEntries (nodesRead file) entries → (Is head ≡ readAnswer file (record { links = links; parents = parents; entries = entries })) × (links′ ≡ rowsRead file (record { links = links; parents = parents; entries = entries }) .links) × (parents′ ≡ rowsRead file (record { links = links; parents = parents; entries = entries }) .parents) × (entries′ ≡ rowsRead file (record { links = links; parents = parents; entries = entries }) .entries)
+  pub read-taken :
+      v ≡ Taken
+      → (head : Header) → head ≡ headRead file → (links′ parents′ entries′ : List ℕ)
+      → links′ ≡ linksHeld file ++ pastLinks (linksRead file) links
+      → parents′ ≡ parentsHeld file ++ drop (nodesRead file) parents
+      → entries′ ≡ table (netRead file) ++ pastEntries (nodesRead file) entries
+      → (Is head ≡ readAnswer file (record { links = links; parents = parents; entries = entries }))
+      × (links′ ≡ rowsRead file (record { links = links; parents = parents; entries = entries }) .links)
+      × (parents′ ≡ rowsRead file (record { links = links; parents = parents; entries = entries }) .parents)
+      × (entries′ ≡ rowsRead file (record { links = links; parents = parents; entries = entries }) .entries)
   unfolding readAnswer rowsRead
   read-taken t head h links′ parents′ entries′ p q r = (rw (← is, t) (ap Is h), rw (← is, t) p, rw (← is, t) q, rw (← is, t) r)
 
-  pub read-refused : (why : Refusal) → v ≡ Refused why → (Not why ≡ readAnswer file (record { links = links; parents = parents; entries = entries })) × (links ≡ rowsRead file (record { links = links; parents = parents; entries = entries }) .links) × (parents ≡ rowsRead file (record { links = links; parents = parents; entries = entries }) .parents) × (entries ≡ rowsRead file (record { links = links; parents = parents; entries = entries }) .entries)
+  pub read-refused :
+      (why : Refusal)
+      → v ≡ Refused why
+      → (Not why ≡ readAnswer file (record { links = links; parents = parents; entries = entries }))
+      × (links ≡ rowsRead file (record { links = links; parents = parents; entries = entries }) .links)
+      × (parents ≡ rowsRead file (record { links = links; parents = parents; entries = entries }) .parents)
+      × (entries ≡ rowsRead file (record { links = links; parents = parents; entries = entries }) .entries)
   unfolding readAnswer rowsRead
   read-refused why t = (rw (← is, t), rw (← is, t), rw (← is, t), rw (← is, t))

@@ -32,7 +32,10 @@ link-place : (i r : ℕ) → 0 < i → r < linksABlock → linkPlace ((i - 1) * 
 unfolding linkPlace
 link-place i r s l = omega arith
 
-entry-place : (m i r : ℕ) → linkBlocks m < i → r < entriesABlock → entryPlace m ((i - 1 - linkBlocks m) * entriesABlock + r) ≡ i * blockBytes + frontBytes + r * entryBytes
+entry-place :
+    (m i r : ℕ)
+    → linkBlocks m < i → r < entriesABlock
+    → entryPlace m ((i - 1 - linkBlocks m) * entriesABlock + r) ≡ i * blockBytes + frontBytes + r * entryBytes
 unfolding entryPlace
 entry-place m i r s l = omega arith
 
@@ -44,12 +47,26 @@ module _ (file : List ℕ) (bytes : (i : ℕ) → getD file i 0 < 256) where
     where
       go : (b : Bool) → ltb j blockBytes ≡ b → getD (take blockBytes (drop (i * blockBytes) file)) j 0 < 256
       go true e =
-          omega (arith, getD-take blockBytes (drop (i * blockBytes) file) j 0 (ltb-true j blockBytes e), getD-drop (i * blockBytes) file j 0, bytes (i * blockBytes + j))
+          omega (
+            arith,
+            getD-take blockBytes (drop (i * blockBytes) file) j 0 (ltb-true j blockBytes e),
+            getD-drop (i * blockBytes) file j 0,
+            bytes (i * blockBytes + j),
+          )
       go false e =
-          omega (arith, List·getD-eq-default (take blockBytes (drop (i * blockBytes) file)) 0 {n = j} (omega (arith, length-take blockBytes (drop (i * blockBytes) file), ltb-false j blockBytes e)))
+          omega (
+            arith,
+            List·getD-eq-default (take blockBytes (drop (i * blockBytes) file)) 0 {n = j}
+                (omega (arith, length-take blockBytes (drop (i * blockBytes) file), ltb-false j blockBytes e)),
+          )
 
   -- a block that is taken, of which every record is the writer's, is the writer's
-  block-records : (kind i used : ℕ) (f : ℕ → List ℕ) → blockVerdict kind i used (blockAt file i) ≡ Taken → ((r : ℕ) → r < used → f r ≡ take (recordBytes kind) (drop (i * blockBytes + frontBytes + r * recordBytes kind) file)) → blockAt file i ≡ block kind i used (rowsTo f used)
+  block-records :
+      (kind i used : ℕ) (f : ℕ → List ℕ)
+      → blockVerdict kind i used (blockAt file i) ≡ Taken
+      → ((r : ℕ)
+      → r < used → f r ≡ take (recordBytes kind) (drop (i * blockBytes + frontBytes + r * recordBytes kind) file))
+      → blockAt file i ≡ block kind i used (rowsTo f used)
   block-records kind i used f t h =
       let fits = heard-size kind used (taken-heard kind i used (blockAt file i) t) in
       block-only kind i used (blockAt file i) t (block-bytes i)
@@ -94,7 +111,10 @@ module _ (file : List ℕ) (bytes : (i : ℕ) → getD file i 0 < 256) where
 
     -- block i of the file, of the part that it is
     Same : Type 0
-    Same = blockAt file i ≡ block (partAt n m i .kind) i (partAt n m i .used) (rowsTo (λ r. recordOf (netRead file) (partAt n m i .kind) (partAt n m i .from + r)) (partAt n m i .used))
+    Same =
+        blockAt file i
+        ≡ block (partAt n m i .kind) i (partAt n m i .used)
+        (rowsTo (λ r. recordOf (netRead file) (partAt n m i .kind) (partAt n m i .from + r)) (partAt n m i .used))
 
     taken : blockVerdict (partAt n m i .kind) i (partAt n m i .used) (blockAt file i) ≡ Taken
     unfolding blockRefusal
@@ -115,7 +135,8 @@ module _ (file : List ℕ) (bytes : (i : ℕ) → getD file i 0 < 256) where
     links-same e f =
         let some : 0 < i = omega (arith, eqb-false i 0 e) in
         rw (e, f)
-        (block-records linksKind i (min linksABlock (m - (i - 1) * linksABlock)) (λ r. recordOf (netRead file) linksKind ((i - 1) * linksABlock + r)) (rw (e, f) at taken)
+        (block-records linksKind i (min linksABlock (m - (i - 1) * linksABlock))
+        (λ r. recordOf (netRead file) linksKind ((i - 1) * linksABlock + r)) (rw (e, f) at taken)
         (λ r l.
         let at = link-place i r some (omega arith) in
         link-back file bytes ((i - 1) * linksABlock + r) (omega arith) (omega (arith, inside)) ∙ ap (λ (k : ℕ). take linkBytes (drop k file)) at))
@@ -125,7 +146,8 @@ module _ (file : List ℕ) (bytes : (i : ℕ) → getD file i 0 < 256) where
     entries-same e f =
         let past : linkBlocks m < i = omega (arith, leb-false i (linkBlocks m) f) in
         rw (e, f)
-        (block-records tableKind i (min entriesABlock (n - (i - 1 - linkBlocks m) * entriesABlock)) (λ r. recordOf (netRead file) tableKind ((i - 1 - linkBlocks m) * entriesABlock + r)) (rw (e, f) at taken)
+        (block-records tableKind i (min entriesABlock (n - (i - 1 - linkBlocks m) * entriesABlock))
+        (λ r. recordOf (netRead file) tableKind ((i - 1 - linkBlocks m) * entriesABlock + r)) (rw (e, f) at taken)
         (λ r l.
         let at = entry-place m i r past (omega arith) in
         sym (w .fresh ((i - 1 - linkBlocks m) * entriesABlock + r) (omega arith)) ∙ ap (λ (k : ℕ). take entryBytes (drop k file)) at))
@@ -136,7 +158,10 @@ module _ (file : List ℕ) (bytes : (i : ℕ) → getD file i 0 < 256) where
         go (eqb i 0) refl (leb i (linkBlocks m)) refl ∙ ap₂ made (sym (nodes-read file)) (sym (links-read file))
       where
         made : ℕ → ℕ → List ℕ
-        made n m = block (partAt n m i .kind) i (partAt n m i .used) (rowsTo (λ r. recordOf (netRead file) (partAt n m i .kind) (partAt n m i .from + r)) (partAt n m i .used))
+        made n m =
+            block (partAt n m i .kind) i (partAt n m i .used)
+            (rowsTo (λ r. recordOf (netRead file) (partAt n m i .kind) (partAt n m i .from + r))
+            (partAt n m i .used))
 
         go : (a : Bool) → eqb i 0 ≡ a → (b : Bool) → leb i (linkBlocks m) ≡ b → Same
         go true e b f = header-same e
@@ -154,5 +179,8 @@ module _ (file : List ℕ) (bytes : (i : ℕ) → getD file i 0 < 256) where
       ∙ ap₂ (λ (a b : ℕ). rowsTo (blockOf (netRead file)) (blockCount a b)) (sym (nodes-read file)) (sym (links-read file))))
 
 -- two files of bytes that are taken, with one network, are one file
-pub one-file : (a b : List ℕ) → ((i : ℕ) → getD a i 0 < 256) → ((i : ℕ) → getD b i 0 < 256) → (rowsA rowsB : Rows) → readVerdict a rowsA ≡ Taken → readVerdict b rowsB ≡ Taken → netRead a ≡ netRead b → a ≡ b
+pub one-file :
+    (a b : List ℕ)
+    → ((i : ℕ) → getD a i 0 < 256) → ((i : ℕ) → getD b i 0 < 256) → (rowsA rowsB : Rows) → readVerdict a rowsA ≡ Taken
+    → readVerdict b rowsB ≡ Taken → netRead a ≡ netRead b → a ≡ b
 one-file a b x y rowsA rowsB p q e = accepted-is-written a x rowsA p ∙ ap fileOf e ∙ sym (accepted-is-written b y rowsB q)

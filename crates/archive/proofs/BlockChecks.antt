@@ -22,7 +22,10 @@ use Rattle.archive.specs.Parts.{partAt}
 use Rattle.archive.specs.Reader.{blockAt, blockRefusal}
 
 -- block i by the bytes of its place
-pub part-refusal : (file : List ℕ) (n m i : ℕ) (part : Part) → part ≡ partAt n m i → (k : ℕ) → k ≡ blockBytes → (v : Verdict) → v ≡ blockVerdict (part .kind) i (part .used) (take k (drop (i * blockBytes) file)) → v ≡ blockRefusal file n m i
+pub part-refusal :
+    (file : List ℕ) (n m i : ℕ) (part : Part)
+    → part ≡ partAt n m i → (k : ℕ) → k ≡ blockBytes → (v : Verdict)
+    → v ≡ blockVerdict (part .kind) i (part .used) (take k (drop (i * blockBytes) file)) → v ≡ blockRefusal file n m i
 unfolding blockRefusal blockAt
 part-refusal file n m i part q k e v p =
     p

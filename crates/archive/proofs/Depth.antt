@@ -35,7 +35,9 @@ module _ (file : List ℕ) (rows : Rows) (h : readVerdict file rows ≡ Taken) w
   depth-read = refl
 
   -- it is the whole search exactly where 65,535 stands there
-  pub whole-read : (searchRead file .depth ≡ wholeSearch → numberIn file 14 2 ≡ wholeSearch) × (numberIn file 14 2 ≡ wholeSearch → searchRead file .depth ≡ wholeSearch)
+  pub whole-read :
+      (searchRead file .depth ≡ wholeSearch → numberIn file 14 2 ≡ wholeSearch)
+      × (numberIn file 14 2 ≡ wholeSearch → searchRead file .depth ≡ wholeSearch)
   unfolding searchRead
   whole-read = (λ e. e, λ e. e)
 

@@ -19,7 +19,7 @@ use Rattle.edition.specs.Stored.{entryBytes}
 use Rattle.rows.specs.First.{firstTo, refuseIf, refuseAt, refusedAt}
 use Rattle.rows.specs.Lists.{same}
 use Rattle.rows.proofs.Best.{first-cong}
-use Rattle.network.specs.Network.{linksIn, netOf}
+use Rattle.network.specs.Network.{Net, linksIn, netOf}
 use Rattle.sound.specs.Sound.{netVerdict}
 use Rattle.table.specs.Table.{table, tableRow}
 use Rattle.entries.specs.Row.{entryAt, pastEntries}
@@ -37,13 +37,19 @@ own-is u e own q =
     let zeros : length (replicate {A = ℕ} entryBytes 0) ≡ entryBytes = length-replicate {A = ℕ} entryBytes 0 in
     q
     ∙ (sets-eq (entryRecord u e) (replicate entryBytes 0) 0 (omega (arith, zeros, entry-size u e))
-    ∙ (ap (λ (r : List ℕ). entryRecord u e ++ r) (drop-of-length-le (replicate entryBytes 0) {i = 0 + length (entryRecord u e)} (omega (arith, zeros, entry-size u e))) ∙ append-nil (entryRecord u e)))
+    ∙ (ap (λ (r : List ℕ). entryRecord u e ++ r)
+    (drop-of-length-le (replicate entryBytes 0) {i = 0 + length (entryRecord u e)}
+    (omega (arith, zeros, entry-size u e)))
+    ∙ append-nil (entryRecord u e)))
 
 module _ (u : ℕ) (e : Entry) (own : List ℕ) (q : own ≡ recordPut 0 entryBytes (entryRecord u e) (replicate entryBytes 0)) where
   pub own-length : length own ≡ entryBytes
   own-length = ap length (own-is u e own q) ∙ entry-size u e
 
-  pub bad-is : (file : List ℕ) (m : ℕ) (parents entries : List ℕ) (x : ℕ) → u ≡ getD parents x noLink → e ≡ entryAt entries x → (place : ℕ) → place ≡ entryPlace m x → (b : Bool) → b ≡ same (take (length own) (drop place file)) own → not b ≡ badBy file m parents entries x
+  pub bad-is :
+      (file : List ℕ) (m : ℕ) (parents entries : List ℕ) (x : ℕ)
+      → u ≡ getD parents x noLink → e ≡ entryAt entries x → (place : ℕ) → place ≡ entryPlace m x → (b : Bool)
+      → b ≡ same (take (length own) (drop place file)) own → not b ≡ badBy file m parents entries x
   unfolding badBy
   bad-is file m parents entries x p w place z b s =
       ap not
@@ -57,27 +63,43 @@ pub placed-by : (file : List ℕ) (n m l : ℕ) → m ≡ l → Placed file l n 
 placed-by file n m l q p = subst (λ k. Placed file k n) (sym q) p
 
 -- by the table of a sound network
-module _ (links parents : List ℕ) (search : Search) (ok : netVerdict (netOf links parents search) ≡ Taken) where
-  table-is : (entries : List ℕ) → entries ≡ tableRow (netOf links parents search) bareRow → entries ≡ table (netOf links parents search) ++ pastEntries (netOf links parents search .nodes) bareRow
-  unfolding tableRow
-  table-is entries q = q ∙ rw (bare-verdict (netOf links parents search) Taken ok)
+module _ (links parents : List ℕ) (search : Search) where
+  abbrev g : Net
+  g = netOf links parents search
 
-  pub stored-bad : (file entries : List ℕ) → entries ≡ tableRow (netOf links parents search) bareRow → (m : ℕ) → m ≡ linksIn links → (f : Found) → f ≡ firstTo (badBy file m parents entries) (length parents) → f ≡ firstTo (badStored file (netOf links parents search)) (length parents)
-  unfolding badBy badStored netOf
-  stored-bad file entries q m c f p =
-      p
-      ∙ first-cong _ _ (length parents)
-      (λ x l.
-      ap₂ (λ (k : ℕ) (own : Entry). not (same (take entryBytes (drop (entryPlace k x) file)) (entryRecord (getD parents x noLink) own))) c
-      (ap (λ (row : List ℕ). entryAt row x) (table-is entries q) ∙ table-entry (netOf links parents search) (pastEntries (netOf links parents search .nodes) bareRow) x l))
+  module _ (ok : netVerdict g ≡ Taken) where
+    table-is :
+        (entries : List ℕ)
+        → entries ≡ tableRow g bareRow
+        → entries ≡ table g ++ pastEntries (g .nodes) bareRow
+    unfolding tableRow
+    table-is entries q = q ∙ rw (bare-verdict g Taken ok)
+
+    pub stored-bad :
+        (file entries : List ℕ)
+        → entries ≡ tableRow g bareRow → (m : ℕ) → m ≡ linksIn links → (f : Found)
+        → f ≡ firstTo (badBy file m parents entries) (length parents)
+        → f ≡ firstTo (badStored file g) (length parents)
+    unfolding badBy badStored netOf
+    stored-bad file entries q m c f p =
+        p
+        ∙ first-cong _ _ (length parents)
+        (λ x l.
+        ap₂ (λ (k : ℕ) (own : Entry). not (same (take entryBytes (drop (entryPlace k x) file)) (entryRecord (getD parents x noLink) own))) c
+        (ap (λ (row : List ℕ). entryAt row x) (table-is entries q)
+        ∙ table-entry g (pastEntries (g .nodes) bareRow) x l))
 
 -- the checks of the content in their order
-module _ (file links parents : List ℕ) (search : Search) (tight : Bool) (ok : netVerdict (netOf links parents search) ≡ Taken) (w : Verdict) (wis : w ≡ refuseIf tight NoRoom 0) where
+module _ (file links parents : List ℕ) (search : Search) (tight : Bool)
+    (ok : netVerdict (netOf links parents search) ≡ Taken) (w : Verdict) (wis : w ≡ refuseIf tight NoRoom 0) where
   pub room-refuses : (r : Refusal) → w ≡ Refused r → w ≡ contentVerdict file (netOf links parents search) tight
   unfolding contentVerdict
   room-refuses r t = t ∙ sym (head-passes _ _ ok ∙ head-refuses _ _ r (sym wis ∙ t))
 
-  pub entries-decide : w ≡ Taken → (f : Found) → f ≡ firstTo (badStored file (netOf links parents search)) (length parents) → (x : Verdict) → x ≡ refusedAt BadEntry f → x ≡ contentVerdict file (netOf links parents search) tight
+  pub entries-decide :
+      w ≡ Taken
+      → (f : Found) → f ≡ firstTo (badStored file (netOf links parents search)) (length parents) → (x : Verdict)
+      → x ≡ refusedAt BadEntry f → x ≡ contentVerdict file (netOf links parents search) tight
   unfolding contentVerdict refuseAt netOf
   entries-decide t f e x q =
       q

@@ -51,7 +51,13 @@ module _ (g : Net) where
   unfolding blockOf block front bytesOf filled
   block-size i =
       let f = part-fit n m i in
-      omega (arith, f .room, records-size (partAt n m i) f, length-append (recordsOf (partAt n m i)) (replicate (payloadBytes - length (recordsOf (partAt n m i))) 0), length-replicate {A = ℕ} (payloadBytes - length (recordsOf (partAt n m i))) 0)
+      omega (
+        arith,
+        f .room,
+        records-size (partAt n m i) f,
+        length-append (recordsOf (partAt n m i)) (replicate (payloadBytes - length (recordsOf (partAt n m i))) 0),
+        length-replicate {A = ℕ} (payloadBytes - length (recordsOf (partAt n m i))) 0,
+      )
 
   pub file-size : length (fileOf g) ≡ blockCount n m * blockBytes
   unfolding fileOf
@@ -69,13 +75,18 @@ module _ (g : Net) where
   payload-there i = refl
 
   -- record r of block i stands in its place
-  record-there : (i : ℕ) → i < blockCount n m → (p : Part) → partAt n m i ≡ p → (r : ℕ) → r < p .used → take (recordBytes (p .kind)) (drop (i * blockBytes + frontBytes + r * recordBytes (p .kind)) (fileOf g)) ≡ recordOf g (p .kind) (p .from + r)
+  record-there :
+      (i : ℕ)
+      → i < blockCount n m → (p : Part) → partAt n m i ≡ p → (r : ℕ) → r < p .used
+      → take (recordBytes (p .kind)) (drop (i * blockBytes + frontBytes + r * recordBytes (p .kind)) (fileOf g))
+      ≡ recordOf g (p .kind) (p .from + r)
   record-there i l p e r h =
       let f = subst Fit e (part-fit n m i) in
       let size = recordBytes (p .kind) in
       sym (record-part (fileOf g) i (r * size) size (omega (arith, f .room, mul-le-mul-right {m = suc r} {n = p .used} size h)))
       ∙ (ap (λ (s : List ℕ). take size (drop (r * size) (drop frontBytes s))) (block-there i l)
-      ∙ (ap (λ (s : List ℕ). take size (drop (r * size) s)) (payload-there i ∙ ap (λ (p : Part). recordsOf p ++ replicate (payloadBytes - length (recordsOf p)) 0) e)
+      ∙ (ap (λ (s : List ℕ). take size (drop (r * size) s))
+      (payload-there i ∙ ap (λ (p : Part). recordsOf p ++ replicate (payloadBytes - length (recordsOf p)) 0) e)
       ∙ rows-at (λ r. recordOf g (p .kind) (p .from + r)) size (sized p f) (p .used) (replicate (payloadBytes - length (recordsOf p)) 0) r h))
 
   -- the header's record
@@ -101,6 +112,7 @@ module _ (g : Net) where
       let i = 1 + linkBlocks m + x / entriesABlock in
       let r = x % entriesABlock in
       let here : (i - 1 - linkBlocks m) * entriesABlock + r ≡ x = omega arith in
-      let is : partAt n m i ≡ partOf tableKind entriesABlock n (i - 1 - linkBlocks m) = rw (ne-eqb i 0 (λ z. omega (arith, z)), lt-leb i (linkBlocks m) (omega arith)) in
+      let is : partAt n m i ≡ partOf tableKind entriesABlock n (i - 1 - linkBlocks m) =
+      rw (ne-eqb i 0 (λ z. omega (arith, z)), lt-leb i (linkBlocks m) (omega arith)) in
       record-there i (omega (arith, l)) (partOf tableKind entriesABlock n (i - 1 - linkBlocks m)) is r (omega (arith, l))
       ∙ ap (λ (k : ℕ). entryRecord (g .parent k) (entry g k)) here

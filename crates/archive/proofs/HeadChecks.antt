@@ -41,7 +41,10 @@ module _ (file : List ℕ) (b : Bool) (odd : b ≡ unequal file) (v : Verdict) (
       unfolding headVerdict
       block-refuses r t = t ∙ sym (head-passes _ _ (sym whole ∙ ok) ∙ head-refuses _ _ r (sym first ∙ t))
 
-      pub sizes-decide : w ≡ Taken → (head : Header) → head ≡ headRead file → (most : Limits) → most ≡ editionLimits → (x : Verdict) → x ≡ sizeVerdict most (head .nodes) (head .links) (head .search) → x ≡ headVerdict file
+      pub sizes-decide :
+          w ≡ Taken
+          → (head : Header) → head ≡ headRead file → (most : Limits) → most ≡ editionLimits → (x : Verdict)
+          → x ≡ sizeVerdict most (head .nodes) (head .links) (head .search) → x ≡ headVerdict file
       unfolding headVerdict headRead
       sizes-decide t head h most e x q =
           q

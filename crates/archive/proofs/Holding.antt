@@ -46,7 +46,15 @@ place-in n m x l = omega (arith, l)
 module _ (file : List ℕ) (head : Header) (b : Blocked file head) where
   placed-rows : (m : ℕ) → m ≡ linksRead file → (n : ℕ) → n ≡ nodesRead file → Placed file m n
   placed-rows m p n q =
-      record { each = λ x l. omega (arith, b .long, subst (λ k. entryPlace k x + entryBytes ≤ blockCount (nodesRead file) (linksRead file) * blockBytes) (sym p) (place-in (nodesRead file) (linksRead file) x (omega (arith, l, q)))) }
+      record {
+        each =
+            λ x l. omega (
+              arith,
+              b .long,
+              subst (λ k. entryPlace k x + entryBytes ≤ blockCount (nodesRead file) (linksRead file) * blockBytes)
+                  (sym p) (place-in (nodesRead file) (linksRead file) x (omega (arith, l, q))),
+            );
+      }
 
   nodes-is : head .nodes ≡ nodesRead file
   unfolding headRead
@@ -78,14 +86,18 @@ module _ (file : List ℕ) (head : Header) (b : Blocked file head) where
   unfolding linksFrom linksHeld
   links-filled before row q = q ∙ ap (λ (k : ℕ). linksFrom file k before) links-is
 
-  pub parents-filled : (before row : List ℕ) → row ≡ rowWith (parentNumber file (head .links)) (head .nodes) before → row ≡ parentsHeld file ++ drop (nodesRead file) before
+  pub parents-filled :
+      (before row : List ℕ)
+      → row ≡ rowWith (parentNumber file (head .links)) (head .nodes) before
+      → row ≡ parentsHeld file ++ drop (nodesRead file) before
   unfolding rowWith parentsHeld parentNumber
   parents-filled before row q =
       q
       ∙ (ap (λ (k : ℕ). rowsTo (λ x. numberIn file (entryPlace k x) 2 ∷ []) (head .nodes) ++ drop (head .nodes) before) links-is
       ∙ ap (λ (k : ℕ). rowsTo (λ x. numberIn file (entryPlace (linksRead file) x) 2 ∷ []) k ++ drop k before) nodes-is)
 
-  module _ (zeros row : List ℕ) (q : row ≡ linksFrom file (head .links) zeros) (zeros′ row′ : List ℕ) (q′ : row′ ≡ rowWith (parentNumber file (head .links)) (head .nodes) zeros′) where
+  module _ (zeros row : List ℕ) (q : row ≡ linksFrom file (head .links) zeros) (zeros′ row′ : List ℕ)
+      (q′ : row′ ≡ rowWith (parentNumber file (head .links)) (head .nodes) zeros′) where
     links-are : frontLinks (head .links) row ≡ linksHeld file
     unfolding linksFrom linksHeld
     links-are =
@@ -112,7 +124,10 @@ module _ (file : List ℕ) (head : Header) (b : Blocked file head) where
       unfolding netRead
       network-is = λ t. netOf (part-is t) (part-is′ t) (search-is t)
 
-      pub content-is : (tight : Bool) (v : Verdict) → v ≡ contentVerdict file (netOf part part′ (head .search)) tight → v ≡ contentVerdict file (netRead file) tight
+      pub content-is :
+          (tight : Bool) (v : Verdict)
+          → v ≡ contentVerdict file (netOf part part′ (head .search)) tight
+          → v ≡ contentVerdict file (netRead file) tight
       unfolding netRead
       content-is tight v q = q ∙ (λ t. contentVerdict file (netOf (part-is t) (part-is′ t) (search-is t)) tight)
 
@@ -120,7 +135,11 @@ module _ (file : List ℕ) (head : Header) (b : Blocked file head) where
       entries-placed = placed-rows (linksIn part) (ap linksIn part-is ∙ links-of file) (length part′) (ap length part-is′ ∙ nodes-of file)
 
 -- a stored link, as its numbers are read
-pub link-is : (file : List ℕ) (e at : ℕ) → at ≡ linkPlace e → (a : ℕ) → a ≡ numberIn file at 2 → (b : ℕ) → b ≡ numberIn file (at + 2) 2 → (c : ℕ) → c ≡ numberIn file (at + 4) 2 → (d : ℕ) → d ≡ numberIn file (at + 6) 2 → _≡_ {A = Link} (record { first = a; second = b; length = c; mark = d }) (storedLink file e)
+pub link-is :
+    (file : List ℕ) (e at : ℕ)
+    → at ≡ linkPlace e → (a : ℕ) → a ≡ numberIn file at 2 → (b : ℕ) → b ≡ numberIn file (at + 2) 2 → (c : ℕ)
+    → c ≡ numberIn file (at + 4) 2 → (d : ℕ) → d ≡ numberIn file (at + 6) 2
+    → _≡_ {A = Link} (record { first = a; second = b; length = c; mark = d }) (storedLink file e)
 unfolding storedLink
 link-is file e at q a p b r c s d t =
     let move : (k : ℕ) → numberIn file (at + k) 2 ≡ numberIn file (linkPlace e + k) 2 = λ k. ap (λ (i : ℕ). numberIn file (i + k) 2) q in
@@ -145,7 +164,10 @@ module _ (file : List ℕ) (m : ℕ) (before : List ℕ) where
   linking-start h = record { low = omega arith; room = h; size = refl; is = refl }
 
   module _ (k : ℕ) (now : List ℕ) (s : Linking file m before k now) where
-    pub linking-more : k < m → (l : Link) → l ≡ storedLink file k → (after : List ℕ) → length after ≡ length now → after ≡ putLink now k l → Linking file m before (k + 1) after
+    pub linking-more :
+        k < m
+        → (l : Link) → l ≡ storedLink file k → (after : List ℕ) → length after ≡ length now → after ≡ putLink now k l
+        → Linking file m before (k + 1) after
     unfolding linksFrom
     linking-more h l e after z p =
         record {

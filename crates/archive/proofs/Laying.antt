@@ -20,7 +20,9 @@ use Rattle.archive.specs.Work.{heldBytes, recordBy, laid, Held}
 use Rattle.archive.proofs.Parting.{kind-size}
 
 -- every record of a kind has its size
-pub record-size : (links parents : List ℕ) (search : Search) (entries : List ℕ) (kind r : ℕ) → length (recordBy links parents search entries kind r) ≡ heldBytes kind
+pub record-size :
+    (links parents : List ℕ) (search : Search) (entries : List ℕ) (kind r : ℕ)
+    → length (recordBy links parents search entries kind r) ≡ heldBytes kind
 unfolding recordBy
 record-size links parents search entries kind r = kind-size kind _ _ _ (header-size _ _ search) (link-size _) (entry-size _ _)
 
@@ -49,7 +51,11 @@ module _ (f : ℕ → List ℕ) (part : Part) (before : List ℕ) (held : Held p
     pub laying-place : r < part .used → (size : ℕ) → size ≡ heldBytes (part .kind) → frontBytes + r * size + size ≤ length before
     laying-place l size e = subst (λ k. frontBytes + r * k + k ≤ length before) (sym e) (omega (arith, laying-room l, laying-length))
 
-    pub laying-more : r < part .used → (size : ℕ) → size ≡ heldBytes (part .kind) → (after : List ℕ) → after ≡ recordPut (frontBytes + r * size) (heldBytes (part .kind)) (f (part .from + r)) now → Laying f part before (r + 1) after
+    pub laying-more :
+        r < part .used
+        → (size : ℕ) → size ≡ heldBytes (part .kind) → (after : List ℕ)
+        → after ≡ recordPut (frontBytes + r * size) (heldBytes (part .kind)) (f (part .from + r)) now
+        → Laying f part before (r + 1) after
     unfolding recordPut rowsTo
     laying-more l size e after q =
         record {
@@ -59,7 +65,8 @@ module _ (f : ℕ → List ℕ) (part : Part) (before : List ℕ) (held : Held p
               ∙ (ap (λ k. recordPut (frontBytes + r * k) (heldBytes (part .kind)) (f (part .from + r)) now) e
               ∙ (rw (le-leb (frontBytes + r * heldBytes (part .kind) + heldBytes (part .kind)) (length now) (laying-room l))
               (ap (λ (b : List ℕ). sets b (frontBytes + r * heldBytes (part .kind)) (f (part .from + r))) (s .is)
-              ∙ (sets-behind (rowsTo (λ i. f (part .from + i)) r) (f (part .from + r)) before frontBytes (frontBytes + r * heldBytes (part .kind)) (ap (λ k. frontBytes + k) (sym front-size))
+              ∙ (sets-behind (rowsTo (λ i. f (part .from + i)) r) (f (part .from + r)) before frontBytes
+              (frontBytes + r * heldBytes (part .kind)) (ap (λ k. frontBytes + k) (sym front-size))
               ∙ ap (λ k. sets before frontBytes (rowsTo (λ i. f (part .from + i)) k)) (sym (add-one r))))));
         }
 

@@ -21,7 +21,10 @@ pub some-blocks : (each c r : ℕ) → r ≡ blocksFor each c → c ≤ wordMost
 unfolding blocksFor
 some-blocks each c r q l = omega (arith, q, div-le-self (c + (each - 1)) each)
 
-pub part-made : (kind each c j left : ℕ) → left ≡ c - j * each → (used : ℕ) → used ≡ min each left → record { kind = kind; from = j * each; used = used } ≡ partOf kind each c j
+pub part-made :
+    (kind each c j left : ℕ)
+    → left ≡ c - j * each → (used : ℕ) → used ≡ min each left
+    → record { kind = kind; from = j * each; used = used } ≡ partOf kind each c j
 unfolding partOf
 part-made kind each c j left p used q = λ i. record { kind = kind; from = j * each; used = (q ∙ ap (min each) p) i }
 
@@ -29,7 +32,11 @@ pub product-small : (a b : ℕ) → a ≤ wordMost → b ≤ wordMost → a * b 
 product-small a b l m = mul-le-mul l m
 
 -- a part of a file is the header's, one of links or one of entries
-pub by-part : (P : Part → Type 0) (n m i : ℕ) → (i ≡ 0 → P (partOf headerKind headersABlock 1 0)) → (0 < i → i ≤ linkBlocks m → P (partOf linksKind linksABlock m (i - 1))) → (linkBlocks m < i → P (partOf tableKind entriesABlock n (i - 1 - linkBlocks m))) → P (partAt n m i)
+pub by-part :
+    (P : Part → Type 0) (n m i : ℕ)
+    → (i ≡ 0 → P (partOf headerKind headersABlock 1 0))
+    → (0 < i → i ≤ linkBlocks m → P (partOf linksKind linksABlock m (i - 1)))
+    → (linkBlocks m < i → P (partOf tableKind entriesABlock n (i - 1 - linkBlocks m))) → P (partAt n m i)
 unfolding partAt
 by-part P n m i header links entries = go (eqb i 0) refl (leb i (linkBlocks m)) refl
   where
@@ -39,7 +46,10 @@ by-part P n m i header links entries = go (eqb i 0) refl (leb i (linkBlocks m)) 
     go false e false f = rw (e, f) (entries (omega (arith, leb-false i (linkBlocks m) f)))
 
 -- a record by its kind has the bytes of its kind
-pub kind-size : (kind : ℕ) (header link own : List ℕ) → length header ≡ headerBytes → length link ≡ linkBytes → length own ≡ entryBytes → length (cond (eqb kind headerKind) header (cond (eqb kind linksKind) link own)) ≡ heldBytes kind
+pub kind-size :
+    (kind : ℕ) (header link own : List ℕ)
+    → length header ≡ headerBytes → length link ≡ linkBytes → length own ≡ entryBytes
+    → length (cond (eqb kind headerKind) header (cond (eqb kind linksKind) link own)) ≡ heldBytes kind
 unfolding heldBytes
 kind-size kind header link own h l o = go (eqb kind headerKind) (eqb kind linksKind)
   where

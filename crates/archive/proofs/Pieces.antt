@@ -30,7 +30,10 @@ join a b i s =
     ap (λ (l : List ℕ). take a (drop i s) ++ take b l) (sym (drop-drop a i s)) ∙ sym (take-add a b (drop i s))
 
 -- a number of a record in a row of records
-pub row-get : (f : ℕ → List ℕ) (size : ℕ) → ((x : ℕ) → length (f x) ≡ size) → (k x i d : ℕ) → x < k → i < size → getD (rowsTo f k) (x * size + i) d ≡ getD (f x) i d
+pub row-get :
+    (f : ℕ → List ℕ) (size : ℕ)
+    → ((x : ℕ) → length (f x) ≡ size) → (k x i d : ℕ) → x < k → i < size
+    → getD (rowsTo f k) (x * size + i) d ≡ getD (f x) i d
 row-get f size h k x i d l m =
     sym (getD-drop (x * size) (rowsTo f k) i d)
     ∙ (sym (getD-take size (drop (x * size) (rowsTo f k)) i d m)
@@ -38,7 +41,10 @@ row-get f size h k x i d l m =
     (ap (λ (r : List ℕ). take size (drop (x * size) r)) (sym (append-nil (rowsTo f k))) ∙ rows-at f size h k [] x l))
 
 -- a record of a block is a part of the file
-pub record-part : (file : List ℕ) (i at size : ℕ) → frontBytes + at + size ≤ blockBytes → take size (drop at (drop frontBytes (blockAt file i))) ≡ take size (drop (i * blockBytes + frontBytes + at) file)
+pub record-part :
+    (file : List ℕ) (i at size : ℕ)
+    → frontBytes + at + size ≤ blockBytes
+    → take size (drop at (drop frontBytes (blockAt file i))) ≡ take size (drop (i * blockBytes + frontBytes + at) file)
 unfolding blockAt
 record-part file i at size h =
     let sum : i * blockBytes + (frontBytes + at) ≡ i * blockBytes + frontBytes + at = omega arith in

@@ -43,11 +43,17 @@ few-nodes file t = sized-nodes editionLimits _ _ _ (sizes-taken file t)
 few-links : (file : List ℕ) → headVerdict file ≡ Taken → linksRead file ≤ storedLinks
 few-links file t = sized-links editionLimits _ _ _ (sizes-taken file t)
 
-searched : (file : List ℕ) → sizeVerdict editionLimits (nodesRead file) (linksRead file) (searchRead file) ≡ Taken → sizeVerdict editionLimits (nodesRead file) (linksRead file) (netRead file .search) ≡ Taken
+searched :
+    (file : List ℕ)
+    → sizeVerdict editionLimits (nodesRead file) (linksRead file) (searchRead file) ≡ Taken
+    → sizeVerdict editionLimits (nodesRead file) (linksRead file) (netRead file .search) ≡ Taken
 unfolding netRead netOf
 searched file t = t
 
-size-read : (file : List ℕ) → sizeVerdict editionLimits (nodesRead file) (linksRead file) (searchRead file) ≡ Taken → sizeVerdict memoryLimits (netRead file .nodes) (netRead file .links) (netRead file .search) ≡ Taken
+size-read :
+    (file : List ℕ)
+    → sizeVerdict editionLimits (nodesRead file) (linksRead file) (searchRead file) ≡ Taken
+    → sizeVerdict memoryLimits (netRead file .nodes) (netRead file .links) (netRead file .search) ≡ Taken
 size-read file t =
     sizes-grow editionLimits memoryLimits edition-within (netRead file .nodes) (netRead file .links) (netRead file .search)
     (rw (nodes-read file, links-read file) (searched file t))
@@ -58,7 +64,13 @@ unfolding netVerdict
 records-alone file t = head-passes _ _ (size-read file (sizes-taken file t)) ∙ only-one _
 
 -- the content of a file whose head is taken
-content-decides : (file : List ℕ) (short : Bool) → headVerdict file ≡ Taken → contentVerdict file (netRead file) short ≡ firstly (recordVerdict (netRead file) ∷ refuseIf short NoRoom 0 ∷ refuseAt (badEntry file) (nodesRead file) BadEntry ∷ [])
+content-decides :
+    (file : List ℕ) (short : Bool)
+    → headVerdict file ≡ Taken
+    → contentVerdict file (netRead file) short
+    ≡ firstly
+    (recordVerdict (netRead file) ∷ refuseIf short NoRoom 0 ∷ refuseAt (badEntry file) (nodesRead file) BadEntry ∷
+    [])
 unfolding contentVerdict badStored badEntry
 content-decides file short t =
     ap (λ (v : Verdict). firstly (v ∷ refuseIf short NoRoom 0 ∷ refuseAt (badEntry file) (netRead file .nodes) BadEntry ∷ [])) (records-alone file t)
@@ -87,7 +99,8 @@ module _ (file : List ℕ) (rows : Rows) (v : Verdict) (is : v ≡ headVerdict f
     pub small-links : head .links ≤ wordMost
     small-links = omega (arith, links-is, few-links file taken)
 
-    module _ (k : ℕ) (e : k ≡ blockCount (head .nodes) (head .links) * blockBytes) (w : Verdict) (wis : w ≡ refuseIf (not (eqb (length file) k)) BadLength 0) where
+    module _ (k : ℕ) (e : k ≡ blockCount (head .nodes) (head .links) * blockBytes) (w : Verdict)
+        (wis : w ≡ refuseIf (not (eqb (length file) k)) BadLength 0) where
       size-is : k ≡ blockCount (nodesRead file) (linksRead file) * blockBytes
       size-is = e ∙ ap₂ (λ (a b : ℕ). blockCount a b * blockBytes) nodes-is links-is
 
@@ -117,10 +130,17 @@ module _ (file : List ℕ) (rows : Rows) (v : Verdict) (is : v ≡ headVerdict f
           blocks-decide r t =
               t ∙ (sym (head-passes _ _ (sym length-is ∙ long) ∙ head-refuses _ _ r (sym blocks-are ∙ t)) ∙ rest-decides file rows taken)
 
-          pub records-decide : x ≡ Taken → (short : Bool) → short ≡ tight (head .nodes) (head .links) rows → (y : Verdict) → y ≡ contentVerdict file (netRead file) short → y ≡ readVerdict file rows
+          pub records-decide :
+              x ≡ Taken
+              → (short : Bool) → short ≡ tight (head .nodes) (head .links) rows → (y : Verdict)
+              → y ≡ contentVerdict file (netRead file) short → y ≡ readVerdict file rows
           unfolding restVerdict
           records-decide t short s y q =
               q
               ∙ (content-decides file short taken
-              ∙ (ap (λ (b : Bool). firstly (recordVerdict (netRead file) ∷ refuseIf b NoRoom 0 ∷ refuseAt (badEntry file) (nodesRead file) BadEntry ∷ [])) (s ∙ ap₂ (λ (a b : ℕ). tight a b rows) nodes-is links-is)
+              ∙ (ap
+              (λ (b : Bool). firstly
+              (recordVerdict (netRead file) ∷ refuseIf b NoRoom 0 ∷ refuseAt (badEntry file) (nodesRead file)
+              BadEntry ∷ []))
+              (s ∙ ap₂ (λ (a b : ℕ). tight a b rows) nodes-is links-is)
               ∙ (sym (head-passes _ _ (sym length-is ∙ long) ∙ head-passes _ _ (sym blocks-are ∙ t)) ∙ rest-decides file rows taken)))

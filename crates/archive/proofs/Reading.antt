@@ -36,22 +36,43 @@ module _ (file : List ℕ) where
 
   module _ (bytes : (i : ℕ) → getD file i 0 < 256) where
     -- four numbers that are read and written again
-    four-back : (p : ℕ) → p + 8 ≤ length file → take 2 (drop p file) ++ take 2 (drop (p + 2) file) ++ take 2 (drop (p + 4) file) ++ take 2 (drop (p + 6) file) ≡ take 8 (drop p file)
+    four-back :
+        (p : ℕ)
+        → p + 8 ≤ length file
+        → take 2 (drop p file) ++ take 2 (drop (p + 2) file) ++ take 2 (drop (p + 4) file) ++ take 2 (drop (p + 6) file)
+        ≡ take 8 (drop p file)
     four-back p h =
         ap (λ (r : List ℕ). r ++ take 2 (drop (p + 4) file) ++ take 2 (drop (p + 6) file)) (join 2 2 p file)
         ∙ (ap (λ (r : List ℕ). r ++ take 2 (drop (p + 6) file)) (join 4 2 p file) ∙ join 6 2 p file)
 
     -- the record of a link, written again, is the bytes that stand there
-    pub link-back : (e : ℕ) → e < linksRead file → linkPlace e + linkBytes ≤ length file → linkRecord (netRead file .link e) ≡ take linkBytes (drop (linkPlace e) file)
+    pub link-back :
+        (e : ℕ)
+        → e < linksRead file → linkPlace e + linkBytes ≤ length file
+        → linkRecord (netRead file .link e) ≡ take linkBytes (drop (linkPlace e) file)
     unfolding linkRecord storedLink
     link-back e l h =
         let p = linkPlace e in
-        rw (link-read e l, number-back 2 file p bytes (omega arith), number-back 2 file (p + 2) bytes (omega arith), number-back 2 file (p + 4) bytes (omega arith), number-back 2 file (p + 6) bytes (omega arith))
+        rw (
+          link-read e l,
+          number-back 2 file p bytes (omega arith),
+          number-back 2 file (p + 2) bytes (omega arith),
+          number-back 2 file (p + 4) bytes (omega arith),
+          number-back 2 file (p + 6) bytes (omega arith),
+        )
         (four-back p (omega arith))
 
     -- so is the header's
     pub header-back : 16 ≤ length file → headerRecord (netRead file .nodes) (netRead file .links) (netRead file .search) ≡ take headerBytes (drop 8 file)
     unfolding headerRecord nodesRead linksRead searchRead
     header-back h =
-        rw (nodes-read, links-read, search-read, number-back 2 file 8 bytes (omega arith), number-back 2 file 10 bytes (omega arith), number-back 2 file 12 bytes (omega arith), number-back 2 file 14 bytes (omega arith))
+        rw (
+          nodes-read,
+          links-read,
+          search-read,
+          number-back 2 file 8 bytes (omega arith),
+          number-back 2 file 10 bytes (omega arith),
+          number-back 2 file 12 bytes (omega arith),
+          number-back 2 file 14 bytes (omega arith),
+        )
         (four-back 8 (omega arith))

@@ -81,7 +81,10 @@ module _ (g : Net) (ok : netVerdict g ≡ Taken) where
 
   pub links-written : linksRead (fileOf g) ≡ g .links
   unfolding linksRead headerRecord
-  links-written = in-header 2 (omega arith) ∙ second-of-four (g .nodes) (g .links) (g .search .root) (g .search .depth) (omega (arith, links-few g (sound g ok)))
+  links-written =
+      in-header 2 (omega arith)
+      ∙ second-of-four (g .nodes) (g .links) (g .search .root) (g .search .depth)
+      (omega (arith, links-few g (sound g ok)))
 
   -- the root and the depth that are read are those that were written
   pub depth-written : searchRead (fileOf g) ≡ g .search
@@ -111,14 +114,18 @@ module _ (g : Net) (ok : netVerdict g ≡ Taken) where
       sym (number-part (fileOf g) (linkPlace e) linkBytes q 2 h) ∙ ap (λ (s : List ℕ). numberIn s q 2) (link-there g e l)
 
   -- each link, whose numbers have 16 bits
-  pub link-written : (e : ℕ) → e < g .links → g .link e .first ≤ wordMost → g .link e .second ≤ wordMost → g .link e .length ≤ wordMost → g .link e .mark ≤ wordMost → storedLink (fileOf g) e ≡ g .link e
+  pub link-written :
+      (e : ℕ)
+      → e < g .links → g .link e .first ≤ wordMost → g .link e .second ≤ wordMost → g .link e .length ≤ wordMost
+      → g .link e .mark ≤ wordMost → storedLink (fileOf g) e ≡ g .link e
   unfolding storedLink linkRecord
   link-written e l p q r s =
       let a = g .link e .first in
       let b = g .link e .second in
       let c = g .link e .length in
       let d = g .link e .mark in
-      let zeroth : numberIn (fileOf g) (linkPlace e) 2 ≡ numberIn (fileOf g) (linkPlace e + 0) 2 = ap (λ (k : ℕ). numberIn (fileOf g) k 2) (sym (add-zero (linkPlace e))) in
+      let zeroth : numberIn (fileOf g) (linkPlace e) 2 ≡ numberIn (fileOf g) (linkPlace e + 0) 2 =
+      ap (λ (k : ℕ). numberIn (fileOf g) k 2) (sym (add-zero (linkPlace e))) in
       λ i.
       record {
         first = (zeroth ∙ (in-link e 0 l (omega arith) ∙ first-of-four a b c d p)) i;

@@ -56,22 +56,6 @@ unfolding fileLength
 file-limited g t =
     omega (arith, blocks-limited (g .nodes) (g .links) (sized-nodes editionLimits _ _ _ t) (sized-links editionLimits _ _ _ t))
 
--- the sizes of a sound network
-module _ (links parents : List ℕ) (search : Search) (ok : netVerdict (netOf links parents search) ≡ Taken) where
-  pub few-nodes : length parents ≤ nodeLimit
-  unfolding netOf
-  few-nodes = nodes-few (netOf links parents search) (sound (netOf links parents search) ok)
-
-  pub few-links : linksIn links ≤ linkLimit
-  unfolding netOf
-  few-links = links-few (netOf links parents search) (sound (netOf links parents search) ok)
-
-  pub nodes-small : length parents ≤ wordMost
-  nodes-small = omega (arith, few-nodes)
-
-  pub links-small : (m : ℕ) → m ≡ linksIn links → m ≤ wordMost
-  links-small m q = omega (arith, q, few-links)
-
 -- the number of blocks as the code has it
 module _ (n m i k : ℕ) {l : ℕ} (q : m ≡ l) (p : k ≡ blockCount n m) where
   pub count-is : i < k → i < blockCount n l
@@ -83,68 +67,110 @@ module _ (n m i k : ℕ) {l : ℕ} (q : m ≡ l) (p : k ≡ blockCount n m) wher
 pub blocks-room : (n m i room : ℕ) → blockCount n m * blockBytes ≤ room → (k : ℕ) → k ≡ blockCount n m → i < k → i * blockBytes + blockBytes ≤ room
 blocks-room n m i room h k q l = omega (arith, h, q, l)
 
-pub file-room : (links parents : List ℕ) (search : Search) (room : ℕ) → fileLength (netOf links parents search) ≤ room → blockCount (length parents) (linksIn links) * blockBytes ≤ room
+pub file-room :
+    (links parents : List ℕ) (search : Search) (room : ℕ)
+    → fileLength (netOf links parents search) ≤ room → blockCount (length parents) (linksIn links) * blockBytes ≤ room
 unfolding fileLength netOf
 file-room links parents search room l = l
 
 -- each block has its size
-pub rows-sized : (links parents : List ℕ) (search : Search) (entries : List ℕ) → Tabled (netOf links parents search) entries → (i : ℕ) → i < blockCount (length parents) (linksIn links) → length (blockOf (netOf links parents search) i) ≡ blockBytes
+pub rows-sized :
+    (links parents : List ℕ) (search : Search) (entries : List ℕ)
+    → Tabled (netOf links parents search) entries → (i : ℕ) → i < blockCount (length parents) (linksIn links)
+    → length (blockOf (netOf links parents search) i) ≡ blockBytes
 rows-sized links parents search entries t i l = block-size (netOf links parents search) i
 
 -- what the loop leaves is the file
-pub file-is : (links parents : List ℕ) (search : Search) (before after : List ℕ) → after ≡ rowsTo (blockOf (netOf links parents search)) (blockCount (length parents) (linksIn links)) ++ drop (blockCount (length parents) (linksIn links) * blockBytes) before → after ≡ fileOf (netOf links parents search) ++ drop (fileLength (netOf links parents search)) before
+pub file-is :
+    (links parents : List ℕ) (search : Search) (before after : List ℕ)
+    → after
+    ≡ rowsTo (blockOf (netOf links parents search)) (blockCount (length parents) (linksIn links)) ++ drop
+    (blockCount (length parents) (linksIn links) * blockBytes) before
+    → after ≡ fileOf (netOf links parents search) ++ drop (fileLength (netOf links parents search)) before
 unfolding fileOf fileLength netOf
 file-is links parents search before after q = q
 
--- the writer's verdict and answer
-module _ (links parents : List ℕ) (search : Search) (file : List ℕ) where
-  module _ (s : Checked) (z : Sizes) (e : s ≡ checked (netOf links parents search)) (t : s ≡ Sound z) where
-    told : (netVerdict (netOf links parents search) ≡ Taken) × (z .nodes ≡ length parents) × (z .links ≡ linksIn links)
+module _ (links parents : List ℕ) (search : Search) where
+  abbrev g : Net
+  g = netOf links parents search
+
+  -- the sizes of a sound network
+  module _ (ok : netVerdict g ≡ Taken) where
+    pub few-nodes : length parents ≤ nodeLimit
     unfolding netOf
-    told = sound-told (netOf links parents search) s z e t
+    few-nodes = nodes-few g (sound g ok)
 
-    pub sizes-small : (z .nodes ≤ wordMost) × (z .links ≤ wordMost)
-    sizes-small = (omega (arith, told .1, nodes-small links parents search (told .0)), links-small links parents search (told .0) (z .links) (told .2))
+    pub few-links : linksIn links ≤ linkLimit
+    unfolding netOf
+    few-links = links-few g (sound g ok)
 
-    -- 10, behind the check of the network
-    pub room-judged : (k : ℕ) → k ≡ blockCount (z .nodes) (z .links) * blockBytes → (w : Verdict) → w ≡ refuseIf (ltb (length file) k) NoRoom 0 → w ≡ writeVerdict (netOf links parents search) file
-    unfolding writeVerdict fileLength netOf
-    room-judged k q w p =
-        let size : k ≡ blockCount (length parents) (linksIn links) * blockBytes = q ∙ ap₂ (λ (a b : ℕ). blockCount a b * blockBytes) (told .1) (told .2) in
-        p
-        ∙ (ap (λ (j : ℕ). refuseIf (ltb (length file) j) NoRoom 0) size
-        ∙ handed-then (netOf links parents search) s e z t (refuseIf (ltb (length file) (blockCount (length parents) (linksIn links) * blockBytes)) NoRoom 0))
+    pub nodes-small : length parents ≤ wordMost
+    nodes-small = omega (arith, few-nodes)
 
-  module _ (t : writeVerdict (netOf links parents search) file ≡ Taken) where
-    net-taken : netVerdict (netOf links parents search) ≡ Taken
-    unfolding writeVerdict
-    net-taken = head-taken _ _ t
+    pub links-small : (m : ℕ) → m ≡ linksIn links → m ≤ wordMost
+    links-small m q = omega (arith, q, few-links)
 
-    pub write-room : fileLength (netOf links parents search) ≤ length file
-    unfolding writeVerdict
-    write-room = ltb-false (length file) (fileLength (netOf links parents search)) (if-taken _ NoRoom 0 (head-taken _ _ (rest-taken _ _ t)))
+  -- the writer's verdict and answer
+  module _ (file : List ℕ) where
+    module _ (s : Checked) (z : Sizes) (e : s ≡ checked g) (t : s ≡ Sound z) where
+      told : (netVerdict g ≡ Taken) × (z .nodes ≡ length parents) × (z .links ≡ linksIn links)
+      unfolding netOf
+      told = sound-told g s z e t
 
-    pub write-numbers : (length parents ≤ wordMost) × (linksIn links ≤ wordMost)
-    write-numbers = (nodes-small links parents search net-taken, links-small links parents search net-taken (linksIn links) refl)
+      pub sizes-small : (z .nodes ≤ wordMost) × (z .links ≤ wordMost)
+      sizes-small = (omega (arith, told .1, nodes-small (told .0)), links-small (told .0) (z .links) (told .2))
 
-    pub write-tabled : (entries : List ℕ) → entries ≡ tableRow (netOf links parents search) bareRow → Tabled (netOf links parents search) entries
-    unfolding tableRow
-    write-tabled entries q =
-        record {
-          ok = net-taken;
-          more = pastEntries (netOf links parents search .nodes) bareRow;
-          is = q ∙ rw (bare-verdict (netOf links parents search) Taken net-taken);
-        }
+      -- 10, behind the check of the network
+      pub room-judged :
+          (k : ℕ)
+          → k ≡ blockCount (z .nodes) (z .links) * blockBytes → (w : Verdict)
+          → w ≡ refuseIf (ltb (length file) k) NoRoom 0 → w ≡ writeVerdict g file
+      unfolding writeVerdict fileLength netOf
+      room-judged k q w p =
+          let size : k ≡ blockCount (length parents) (linksIn links) * blockBytes = q ∙ ap₂ (λ (a b : ℕ). blockCount a b * blockBytes) (told .1) (told .2) in
+          p
+          ∙ (ap (λ (j : ℕ). refuseIf (ltb (length file) j) NoRoom 0) size
+          ∙ handed-then g s e z t (refuseIf (ltb (length file) (blockCount (length parents) (linksIn links) * blockBytes)) NoRoom 0))
 
-    pub length-is : (m : ℕ) → m ≡ linksIn links → (k : ℕ) → k ≡ blockCount (length parents) m * blockBytes → k ≡ fileLength (netOf links parents search)
-    unfolding fileLength netOf
-    length-is m c k e = e ∙ ap (λ j. blockCount (length parents) j * blockBytes) c
+    module _ (t : writeVerdict g file ≡ Taken) where
+      net-taken : netVerdict g ≡ Taken
+      unfolding writeVerdict
+      net-taken = head-taken _ _ t
 
-  module _ (v : Verdict) (q : v ≡ writeVerdict (netOf links parents search) file) where
-    pub write-taken : v ≡ Taken → (k : ℕ) → k ≡ fileLength (netOf links parents search) → (after : List ℕ) → after ≡ fileOf (netOf links parents search) ++ drop (fileLength (netOf links parents search)) file → (Is k ≡ writeAnswer (netOf links parents search) file) × (after ≡ writtenRow (netOf links parents search) file)
-    unfolding writeAnswer writtenRow
-    write-taken t k e after p = (rw (← q, t, e), rw (← q, t) p)
+      pub write-room : fileLength g ≤ length file
+      unfolding writeVerdict
+      write-room = ltb-false (length file) (fileLength g) (if-taken _ NoRoom 0 (head-taken _ _ (rest-taken _ _ t)))
 
-    pub write-refused : (r : Refusal) → v ≡ Refused r → (Not r ≡ writeAnswer (netOf links parents search) file) × (file ≡ writtenRow (netOf links parents search) file)
-    unfolding writeAnswer writtenRow
-    write-refused r t = (rw (← q, t), rw (← q, t))
+      pub write-numbers : (length parents ≤ wordMost) × (linksIn links ≤ wordMost)
+      write-numbers = (nodes-small net-taken, links-small net-taken (linksIn links) refl)
+
+      pub write-tabled : (entries : List ℕ) → entries ≡ tableRow g bareRow → Tabled g entries
+      unfolding tableRow
+      write-tabled entries q =
+          record {
+            ok = net-taken;
+            more = pastEntries (g .nodes) bareRow;
+            is = q ∙ rw (bare-verdict g Taken net-taken);
+          }
+
+      pub length-is : (m : ℕ) → m ≡ linksIn links → (k : ℕ) → k ≡ blockCount (length parents) m * blockBytes → k ≡ fileLength g
+      unfolding fileLength netOf
+      length-is m c k e = e ∙ ap (λ j. blockCount (length parents) j * blockBytes) c
+
+    module _ (v : Verdict) (q : v ≡ writeVerdict g file) where
+      pub write-taken :
+          v ≡ Taken
+          → (k : ℕ) → k ≡ fileLength g → (after : List ℕ)
+          → after ≡ fileOf g ++ drop (fileLength g) file
+          → (Is k ≡ writeAnswer g file)
+          × (after ≡ writtenRow g file)
+      unfolding writeAnswer writtenRow
+      write-taken t k e after p = (rw (← q, t, e), rw (← q, t) p)
+
+      pub write-refused :
+          (r : Refusal)
+          → v ≡ Refused r
+          → (Not r ≡ writeAnswer g file)
+          × (file ≡ writtenRow g file)
+      unfolding writeAnswer writtenRow
+      write-refused r t = (rw (← q, t), rw (← q, t))

@@ -14,7 +14,8 @@ pub record Filing (f : ℕ → List ℕ) (count : ℕ) (before : List ℕ) (i : 
   pub low : i ≤ count
   pub is : now ≡ rowsTo f i ++ drop (i * blockBytes) before
 
-module _ (f : ℕ → List ℕ) (count : ℕ) (before : List ℕ) (room : count * blockBytes ≤ length before) (sized : (i : ℕ) → i < count → length (f i) ≡ blockBytes) where
+module _ (f : ℕ → List ℕ) (count : ℕ) (before : List ℕ) (room : count * blockBytes ≤ length before)
+    (sized : (i : ℕ) → i < count → length (f i) ≡ blockBytes) where
   pub filing-start : Filing f count before 0 before
   unfolding rowsTo
   filing-start = record { low = omega arith; is = refl }
@@ -27,17 +28,29 @@ module _ (f : ℕ → List ℕ) (count : ℕ) (before : List ℕ) (room : count 
   module _ (i : ℕ) (now : List ℕ) (s : Filing f count before i now) where
     pub filing-length : length now ≡ length before
     filing-length =
-        omega (arith, room, s .low, ap length (s .is) ∙ length-append (rowsTo f i) (drop (i * blockBytes) before), front-size i (s .low), length-drop (i * blockBytes) before)
+        omega (
+          arith,
+          room,
+          s .low,
+          ap length (s .is)
+              ∙ length-append (rowsTo f i) (drop (i * blockBytes) before),
+          front-size i (s .low),
+          length-drop (i * blockBytes) before,
+        )
 
     pub filing-room : i < count → i * blockBytes + blockBytes ≤ length now
     filing-room l = omega (arith, filing-length, room, l)
 
     -- one more block, in the place of the old bytes
-    pub filing-more : i < count → (b : List ℕ) → b ≡ f i → (k : ℕ) → k ≡ blockBytes → Filing f count before (i + 1) (take (i * blockBytes) now ++ (b ++ drop k (drop (i * blockBytes) now)))
+    pub filing-more :
+        i < count
+        → (b : List ℕ) → b ≡ f i → (k : ℕ) → k ≡ blockBytes
+        → Filing f count before (i + 1) (take (i * blockBytes) now ++ (b ++ drop k (drop (i * blockBytes) now)))
     unfolding rowsTo
     filing-more l b q k e =
         let next : i * blockBytes + blockBytes ≡ (i + 1) * blockBytes = omega arith in
-        let past : drop blockBytes (drop (i * blockBytes) before) ≡ drop ((i + 1) * blockBytes) before = drop-drop blockBytes (i * blockBytes) before ∙ ap (λ (j : ℕ). drop j before) next in
+        let past : drop blockBytes (drop (i * blockBytes) before) ≡ drop ((i + 1) * blockBytes) before =
+        drop-drop blockBytes (i * blockBytes) before ∙ ap (λ (j : ℕ). drop j before) next in
         let rows : rowsTo f i ++ f i ≡ rowsTo f (i + 1) = ap (rowsTo f) (sym (add-one i)) in
         record {
           low = omega arith;

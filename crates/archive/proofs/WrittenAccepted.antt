@@ -117,7 +117,12 @@ module _ (g : Net) where
       all-accepted = both-taken _ _ head-accepted (both-taken _ _ rest-accepted none-left)
 
 -- the file of a sound network within edition 1's limits, of rows whose numbers have 16 bits, is taken
-pub written-accepted : (links parents : List ℕ) (search : Search) → netVerdict (netOf links parents search) ≡ Taken → sizeVerdict editionLimits (length parents) (linksIn links) search ≡ Taken → ((i : ℕ) → getD links i 0 ≤ longest) → (rows : Rows) → tight (length parents) (linksIn links) rows ≡ false → readVerdict (fileOf (netOf links parents search)) rows ≡ Taken
+pub written-accepted :
+    (links parents : List ℕ) (search : Search)
+    → netVerdict (netOf links parents search) ≡ Taken
+    → sizeVerdict editionLimits (length parents) (linksIn links) search ≡ Taken → ((i : ℕ) → getD links i 0 ≤ longest)
+    → (rows : Rows) → tight (length parents) (linksIn links) rows ≡ false
+    → readVerdict (fileOf (netOf links parents search)) rows ≡ Taken
 unfolding netOf
 written-accepted links parents search ok fits held rows room =
     all-accepted (netOf links parents search) ok fits (network-back links parents search ok held) rows room

@@ -149,7 +149,8 @@ fn put_record(
 )
     requires { ⌜ (length (now parents) ≤ nodeLimit) × (linksIn (now links) ≤ linkLimit) ⌝ }
     ensures { λ _.
-        ⌜ now (block .exit) ≡ recordPut at (heldBytes kind) (recordBy (now (links .entry)) (now (parents .entry)) search (now (entries .entry)) kind r) (now (block .entry)) ⌝ }
+        let record′ = recordBy (now (links .entry)) (now (parents .entry)) search (now (entries .entry)) kind r in
+        ⌜ now (block .exit) ≡ recordPut at (heldBytes kind) record′ (now (block .entry)) ⌝ }
 {
     if kind == Edition::HEADER_KIND {
         let n = parents.len() as u16;
@@ -181,7 +182,8 @@ fn put_records(
         × (length (now parents) ≤ nodeLimit)
         × (linksIn (now links) ≤ linkLimit) ⌝ }
     ensures { λ _.
-        ⌜ now (block .exit) ≡ laid (recordBy (now (links .entry)) (now (parents .entry)) search (now (entries .entry)) (part .kind)) part (now (block .entry)) ⌝ }
+        let record′ = recordBy (now (links .entry)) (now (parents .entry)) search (now (entries .entry)) (part .kind) in
+        ⌜ now (block .exit) ≡ laid record′ part (now (block .entry)) ⌝ }
 {
     let size = held_bytes(part.kind);
     let mut r = 0;

@@ -42,11 +42,15 @@ six true true true true true true = refl
 
 module _ (kind number used : ℕ) (b : List ℕ) (l : length b ≡ blockBytes) (bytes : (i : ℕ) → getD b i 0 < 256) (n : number < 65536) (u : used < 65536) where
   -- front by front
-  front-same : same (take 6 b) (front kind number used) ≡ (eqb (getD b 0 0) kind && (eqb (getD b 1 0) editionOne && (eqb (numberIn b 2 2) number && eqb (numberIn b 4 2) used)))
+  front-same :
+      same (take 6 b) (front kind number used)
+      ≡ (eqb (getD b 0 0) kind &&
+      (eqb (getD b 1 0) editionOne && (eqb (numberIn b 2 2) number && eqb (numberIn b 4 2) used)))
   unfolding same front bytesOf
   front-same =
       ap (λ (t : List ℕ). same t (front kind number used)) (first-six b l)
-      ∙ (six (eqb (getD b 0 0) kind) (eqb (getD b 1 0) editionOne) (eqb (getD b 2 0) (number / 256 % 256)) (eqb (getD b 3 0) (number % 256)) (eqb (getD b 4 0) (used / 256 % 256)) (eqb (getD b 5 0) (used % 256))
+      ∙ (six (eqb (getD b 0 0) kind) (eqb (getD b 1 0) editionOne) (eqb (getD b 2 0) (number / 256 % 256))
+      (eqb (getD b 3 0) (number % 256)) (eqb (getD b 4 0) (used / 256 % 256)) (eqb (getD b 5 0) (used % 256))
       ∙ ap₂ (λ (p q : Bool). eqb (getD b 0 0) kind && (eqb (getD b 1 0) editionOne && (p && q)))
       (two-bytes (getD b 2 0) (getD b 3 0) number (bytes 2) (bytes 3) n ∙ ap (λ (v : ℕ). eqb v number) (sym (number-two b 2)))
       (two-bytes (getD b 4 0) (getD b 5 0) used (bytes 4) (bytes 5) u ∙ ap (λ (v : ℕ). eqb v used) (sym (number-two b 4))))

@@ -27,7 +27,10 @@ module _ (kind number used : ℕ) (b : List ℕ) where
     unfolding blockVerdict firstly refuseIf badCheck
     check-refuses h = rw (eq-eqb (length b) blockBytes l, ← p, ← q, ne-eqb n c h)
 
-    pub block-decides : n ≡ c → (t : Bool) → t ≡ badBlock kind number used b → (v : Verdict) → v ≡ refuseIf t BadBlock number → v ≡ blockVerdict kind number used b
+    pub block-decides :
+        n ≡ c
+        → (t : Bool) → t ≡ badBlock kind number used b → (v : Verdict) → v ≡ refuseIf t BadBlock number
+        → v ≡ blockVerdict kind number used b
     unfolding blockVerdict badCheck
     block-decides h t r v s =
         s ∙ ap (λ (x : Bool). refuseIf x BadBlock number) r

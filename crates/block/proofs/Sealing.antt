@@ -15,7 +15,10 @@ use Rattle.block.specs.Block.{recordBytes, front, checkOf, filled, block
 use Rattle.block.specs.Work.{withFront, cleared}
 use Rattle.block.proofs.Sizes.{size-fits}
 
-pub front-put : (kind number used : ℕ) (b r s : List ℕ) → r ≡ sets (set (set b 0 kind) 1 editionOne) 2 (bytesOf 2 number) → s ≡ sets r 4 (bytesOf 2 used) → s ≡ withFront kind number used b
+pub front-put :
+    (kind number used : ℕ) (b r s : List ℕ)
+    → r ≡ sets (set (set b 0 kind) 1 editionOne) 2 (bytesOf 2 number) → s ≡ sets r 4 (bytesOf 2 used)
+    → s ≡ withFront kind number used b
 unfolding withFront front bytesOf
 front-put kind number used b r s p q = q ∙ rw p
 
@@ -61,7 +64,10 @@ module _ (before : List ℕ) (from count : ℕ) where
 
 module _ (kind number used : ℕ) (b : List ℕ) where
   -- a row that is made a block
-  pub sealed-is : length b ≡ blockBytes → unheard kind used ≡ false → block kind number used (take (used * recordBytes kind) (drop frontBytes b)) ≡ sealed kind number used b
+  pub sealed-is :
+      length b ≡ blockBytes
+      → unheard kind used ≡ false
+      → block kind number used (take (used * recordBytes kind) (drop frontBytes b)) ≡ sealed kind number used b
   unfolding sealed
   sealed-is l h = rw (eq-eqb (length b) blockBytes l, h)
 

@@ -10,7 +10,10 @@ use Rattle.edition.specs.Stored.{headersABlock, linksABlock, entriesABlock}
 use Rattle.rows.proofs.Tests.{or-false}
 use Rattle.block.specs.Block.{capacity, recordBytes, unheard}
 
-by-kind : (x y z : Bool) (used : ℕ) → ltb (cond x headersABlock (cond y linksABlock (cond z entriesABlock 0))) used ≡ false → used * cond x headerBytes (cond y linkBytes (cond z entryBytes 0)) ≤ payloadBytes
+by-kind :
+    (x y z : Bool) (used : ℕ)
+    → ltb (cond x headersABlock (cond y linksABlock (cond z entriesABlock 0))) used ≡ false
+    → used * cond x headerBytes (cond y linkBytes (cond z entryBytes 0)) ≤ payloadBytes
 by-kind true y z used h = omega (arith, ltb-false headersABlock used h)
 by-kind false true z used h = omega (arith, ltb-false linksABlock used h)
 by-kind false false true used h = omega (arith, ltb-false entriesABlock used h)

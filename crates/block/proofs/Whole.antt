@@ -84,7 +84,8 @@ module _ (kind number used : ℕ) (b : List ℕ) (h : blockVerdict kind number u
   unfolding block front checkOf bytesOf records
   block-only bytes =
       let l = taken-length kind number used b h in
-      let v : checkOf b ≡ checksum (front kind number used ++ 0 ∷ 0 ∷ filled records) = ap₂ (λ (x y : List ℕ). checksum (x ++ 0 ∷ 0 ∷ y)) taken-front taken-payload in
+      let v : checkOf b ≡ checksum (front kind number used ++ 0 ∷ 0 ∷ filled records) =
+      ap₂ (λ (x y : List ℕ). checksum (x ++ 0 ∷ 0 ∷ y)) taken-front taken-payload in
       let two = number-two b 6 in
       let is = taken-check in
       let high : getD b 6 0 ≡ checkOf b / 256 % 256 = omega (arith, bytes 6, bytes 7) in
@@ -114,7 +115,12 @@ module _ (kind number used : ℕ) (records : List ℕ) (heard : unheard kind use
   made-length : length made ≡ blockBytes
   unfolding made block front bytesOf filled
   made-length =
-      omega (arith, heard-size kind used heard, length-append records (replicate (payloadBytes - length records) 0), length-replicate {A = ℕ} (payloadBytes - length records) 0)
+      omega (
+        arith,
+        heard-size kind used heard,
+        length-append records (replicate (payloadBytes - length records) 0),
+        length-replicate {A = ℕ} (payloadBytes - length records) 0,
+      )
 
   made-check : numberIn made 6 2 ≡ checkOf made
   unfolding made block front bytesOf checkOf numberIn checksum
@@ -142,7 +148,10 @@ module _ (kind number used : ℕ) (records : List ℕ) (heard : unheard kind use
 
   -- an entry whose zeros are 0
   module _ (r : ℕ) (inside : (r + 1) * entryBytes ≤ length records) where
-    clean-at : (k i j : ℕ) → k + i ≡ frontBytes + (r * entryBytes + j) → j < entryBytes → getD records (r * entryBytes + j) 0 ≡ 0 → not (eqb (getD made (k + i) 0) 0) ≡ false
+    clean-at :
+        (k i j : ℕ)
+        → k + i ≡ frontBytes + (r * entryBytes + j) → j < entryBytes → getD records (r * entryBytes + j) 0 ≡ 0
+        → not (eqb (getD made (k + i) 0) 0) ≡ false
     clean-at k i j q l h =
         ap not
         (eq-eqb (getD made (k + i) 0) 0
@@ -189,7 +198,11 @@ module _ (kind number used : ℕ) (records : List ℕ) (heard : unheard kind use
         (both-taken _ _ (if-passes (badBlock kind number used made) BadBlock number made-whole) none-left))
 
 -- so is a row that is made a block
-pub seal-taken : (kind number used : ℕ) (b : List ℕ) → length b ≡ blockBytes → unheard kind used ≡ false → (kind ≡ tableKind → (r : ℕ) → r < used → Zeroed (take (used * recordBytes kind) (drop frontBytes b)) r) → blockVerdict kind number used (sealed kind number used b) ≡ Taken
+pub seal-taken :
+    (kind number used : ℕ) (b : List ℕ)
+    → length b ≡ blockBytes → unheard kind used ≡ false
+    → (kind ≡ tableKind → (r : ℕ) → r < used → Zeroed (take (used * recordBytes kind) (drop frontBytes b)) r)
+    → blockVerdict kind number used (sealed kind number used b) ≡ Taken
 seal-taken kind number used b l h clean =
     let size = heard-size kind used h in
     rw (← sealed-is kind number used b l h)

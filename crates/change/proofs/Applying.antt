@@ -21,7 +21,7 @@ use Rattle.rows.specs.Lists.{differ}
 use Rattle.rows.proofs.Records.{rows-cong}
 use Rattle.rows.proofs.Refusing.{head-taken, head-refuses, head-passes, both-taken, none-left, if-taken, if-passes, only-one}
 use Rattle.network.specs.declared.Link.{Link}
-use Rattle.network.specs.Network.{linksIn, linkIn, netOf, isParent}
+use Rattle.network.specs.Network.{Net, linksIn, linkIn, netOf, isParent}
 use Rattle.network.specs.Records.{badMark}
 use Rattle.tree.specs.Tree.{treeOf, under}
 use Rattle.sound.specs.Sound.{netVerdict}
@@ -36,132 +36,177 @@ use Rattle.change.proofs.Staying.{Allowed, allowed, still-sound}
 use Rattle.change.proofs.Mending.{onWay, madeAt, mended-rows}
 use Rattle.change.proofs.Flipping.{turned-twice}
 
--- the order of the checks
-module _ (links parents : List ℕ) (search : Search) (entries : List ℕ) (c : Change) (v : Verdict) (is : v ≡ tableVerdict (netOf links parents search) entries) where
-  pub first-refuses : (r : Refusal) → v ≡ Refused r → v ≡ changeVerdict (netOf links parents search) entries c
-  unfolding changeVerdict
-  first-refuses r t = t ∙ sym (head-refuses _ _ r (sym is ∙ t))
+module _ (links parents : List ℕ) (search : Search) where
+  abbrev g : Net
+  g = netOf links parents search
 
-  module _ (ok : v ≡ Taken) (m : ℕ) (count : m ≡ linksIn links) (w : Verdict) (wis : w ≡ refuseIf (leb m (c .link)) LinkMissing 0) where
-    second : w ≡ refuseIf (leb (netOf links parents search .links) (c .link)) LinkMissing 0
-    unfolding netOf
-    second = wis ∙ ap (λ k. refuseIf (leb k (c .link)) LinkMissing 0) count
-
-    pub second-refuses : (r : Refusal) → w ≡ Refused r → w ≡ changeVerdict (netOf links parents search) entries c
+  -- the order of the checks
+  module _ (entries : List ℕ) (c : Change) (v : Verdict) (is : v ≡ tableVerdict g entries) where
+    pub first-refuses : (r : Refusal) → v ≡ Refused r → v ≡ changeVerdict g entries c
     unfolding changeVerdict
-    second-refuses r t = t ∙ sym (head-passes _ _ (sym is ∙ ok) ∙ head-refuses _ _ r (sym second ∙ t))
+    first-refuses r t = t ∙ sym (head-refuses _ _ r (sym is ∙ t))
 
-    module _ (there : w ≡ Taken) (b : Bool) (mark : b ≡ badMark (c .mark)) (x : Verdict) (xis : x ≡ refuseIf b BadMark (c .link)) where
-      third : x ≡ refuseIf (badMark (c .mark)) BadMark (c .link)
-      third = xis ∙ ap (λ k. refuseIf k BadMark (c .link)) mark
+    module _ (ok : v ≡ Taken) (m : ℕ) (count : m ≡ linksIn links) (w : Verdict) (wis : w ≡ refuseIf (leb m (c .link)) LinkMissing 0) where
+      second : w ≡ refuseIf (leb (g .links) (c .link)) LinkMissing 0
+      unfolding netOf
+      second = wis ∙ ap (λ k. refuseIf (leb k (c .link)) LinkMissing 0) count
 
-      pub third-refuses : (r : Refusal) → x ≡ Refused r → x ≡ changeVerdict (netOf links parents search) entries c
+      pub second-refuses : (r : Refusal) → w ≡ Refused r → w ≡ changeVerdict g entries c
       unfolding changeVerdict
-      third-refuses r t =
-          t ∙ sym (head-passes _ _ (sym is ∙ ok) ∙ (head-passes _ _ (sym second ∙ there) ∙ head-refuses _ _ r (sym third ∙ t)))
+      second-refuses r t = t ∙ sym (head-passes _ _ (sym is ∙ ok) ∙ head-refuses _ _ r (sym second ∙ t))
 
-      pub link-there : c .link < linksIn links
-      link-there = leb-false (linksIn links) (c .link) (if-taken _ LinkMissing 0 (ap (λ k. refuseIf (leb k (c .link)) LinkMissing 0) (sym count) ∙ (sym wis ∙ there)))
+      module _ (there : w ≡ Taken) (b : Bool) (mark : b ≡ badMark (c .mark)) (x : Verdict) (xis : x ≡ refuseIf b BadMark (c .link)) where
+        third : x ≡ refuseIf (badMark (c .mark)) BadMark (c .link)
+        third = xis ∙ ap (λ k. refuseIf k BadMark (c .link)) mark
 
-      module _ (serves : x ≡ Taken) (p : Bool) (named : p ≡ isParent (λ u. getD parents u noLink) (length parents) (c .link)) (y : Verdict) (yis : y ≡ refuseIf p TreeLink (c .link)) where
-        fourth : y ≡ refuseIf (isParent (netOf links parents search .parent) (netOf links parents search .nodes) (c .link)) TreeLink (c .link)
-        unfolding netOf
-        fourth = yis ∙ ap (λ k. refuseIf k TreeLink (c .link)) named
-
-        pub fourth-refuses : (r : Refusal) → y ≡ Refused r → y ≡ changeVerdict (netOf links parents search) entries c
+        pub third-refuses : (r : Refusal) → x ≡ Refused r → x ≡ changeVerdict g entries c
         unfolding changeVerdict
-        fourth-refuses r t =
-            t
-            ∙ sym
-            (head-passes _ _ (sym is ∙ ok)
-            ∙ (head-passes _ _ (sym second ∙ there) ∙ (head-passes _ _ (sym third ∙ serves) ∙ head-refuses _ _ r (sym fourth ∙ t))))
+        third-refuses r t =
+            t ∙ sym (head-passes _ _ (sym is ∙ ok) ∙ (head-passes _ _ (sym second ∙ there) ∙ head-refuses _ _ r (sym third ∙ t)))
 
-        pub fifth-decides : y ≡ Taken → (s : Bool) → s ≡ breaks (netOf links parents search) c → (z : Verdict) → z ≡ refuseIf s BreaksShort (c .link) → z ≡ changeVerdict (netOf links parents search) entries c
-        unfolding changeVerdict
-        fifth-decides spare s short z zis =
-            zis
-            ∙ (ap (λ k. refuseIf k BreaksShort (c .link)) short
-            ∙ sym
-            (head-passes _ _ (sym is ∙ ok)
-            ∙ (head-passes _ _ (sym second ∙ there)
-            ∙ (head-passes _ _ (sym third ∙ serves) ∙ (head-passes _ _ (sym fourth ∙ spare) ∙ only-one _)))))
+        pub link-there : c .link < linksIn links
+        link-there =
+            leb-false (linksIn links) (c .link)
+            (if-taken _ LinkMissing 0
+            (ap (λ k. refuseIf (leb k (c .link)) LinkMissing 0) (sym count) ∙ (sym wis ∙ there)))
 
--- the application of a change that is taken
-module _ (links parents : List ℕ) (search : Search) (entries : List ℕ) (c : Change) (t : changeVerdict (netOf links parents search) entries c ≡ Taken) where
-  a : Allowed (netOf links parents search) c
-  a = allowed (netOf links parents search) entries c t
+        module _ (serves : x ≡ Taken) (p : Bool)
+            (named : p ≡ isParent (λ u. getD parents u noLink) (length parents) (c .link)) (y : Verdict)
+            (yis : y ≡ refuseIf p TreeLink (c .link)) where
+          fourth : y ≡ refuseIf (isParent (g .parent) (g .nodes) (c .link)) TreeLink (c .link)
+          unfolding netOf
+          fourth = yis ∙ ap (λ k. refuseIf k TreeLink (c .link)) named
 
-  table-taken : tableVerdict (netOf links parents search) entries ≡ Taken
-  unfolding changeVerdict
-  table-taken = head-taken _ _ t
+          pub fourth-refuses : (r : Refusal) → y ≡ Refused r → y ≡ changeVerdict g entries c
+          unfolding changeVerdict
+          fourth-refuses r t =
+              t
+              ∙ sym
+              (head-passes _ _ (sym is ∙ ok)
+              ∙ (head-passes _ _ (sym second ∙ there) ∙ (head-passes _ _ (sym third ∙ serves) ∙ head-refuses _ _ r (sym fourth ∙ t))))
 
-  pub apply-sound : netVerdict (netOf links parents search) ≡ Taken
-  apply-sound = taken (netOf links parents search) (a .before)
+          pub fifth-decides :
+              y ≡ Taken
+              → (s : Bool) → s ≡ breaks g c → (z : Verdict)
+              → z ≡ refuseIf s BreaksShort (c .link) → z ≡ changeVerdict g entries c
+          unfolding changeVerdict
+          fifth-decides spare s short z zis =
+              zis
+              ∙ (ap (λ k. refuseIf k BreaksShort (c .link)) short
+              ∙ sym
+              (head-passes _ _ (sym is ∙ ok)
+              ∙ (head-passes _ _ (sym second ∙ there)
+              ∙ (head-passes _ _ (sym third ∙ serves) ∙ (head-passes _ _ (sym fourth ∙ spare) ∙ only-one _)))))
 
-  few : length parents ≤ nodeLimit
-  unfolding netOf
-  few = nodes-few (netOf links parents search) (a .before)
+  -- the application of a change that is taken
+  module _ (entries : List ℕ) (c : Change) (t : changeVerdict g entries c ≡ Taken) where
+    a : Allowed g c
+    a = allowed g entries c t
 
-  pub root-node : search .root < length parents
-  unfolding netOf
-  root-node = root-in (netOf links parents search) (a .before)
+    table-taken : tableVerdict g entries ≡ Taken
+    unfolding changeVerdict
+    table-taken = head-taken _ _ t
 
-  pub marks-room : length parents ≤ length (replicate {A = ℕ} nodeLimit 0)
-  marks-room = omega (arith, few, length-replicate {A = ℕ} nodeLimit 0)
+    pub apply-sound : netVerdict g ≡ Taken
+    apply-sound = taken g (a .before)
 
-  module _ (l : Link) (is : l ≡ linkIn links (c .link)) where
-    pub first-node : l .first < length parents
+    few : length parents ≤ nodeLimit
     unfolding netOf
-    first-node = rw is (first-in (netOf links parents search) (a .before) (c .link) (a .there))
+    few = nodes-few g (a .before)
 
-    pub second-node : l .second < length parents
+    pub root-node : search .root < length parents
     unfolding netOf
-    second-node = rw is (second-in (netOf links parents search) (a .before) (c .link) (a .there))
+    root-node = root-in g (a .before)
 
-    module _ (one : List ℕ) (climb : Moved (λ x. under (treeOf (netOf links parents search)) x (l .first)) flip (replicate {A = ℕ} nodeLimit 0) one) where
-      pub marks-still : length parents ≤ length one
-      marks-still = omega (arith, marks-room, climb .size)
+    pub marks-room : length parents ≤ length (replicate {A = ℕ} nodeLimit 0)
+    marks-room = omega (arith, few, length-replicate {A = ℕ} nodeLimit 0)
 
-      module _ (marks : List ℕ) (other : Moved (λ x. under (treeOf (netOf links parents search)) x (l .second)) flip one marks) where
-        marked-is : (x : ℕ) → x < length parents → marked marks x ≡ onWay links parents search c a x
-        unfolding onWay netOf
-        marked-is x m =
-            turned-twice _ _ one marks climb other x (omega (arith, m, few))
-            ∙ (ap (λ (k : Link). differ (under (treeOf (netOf links parents search)) x (k .first)) (under (treeOf (netOf links parents search)) x (k .second))) is
-            ∙ sym (link-path (netOf links parents search) (a .before) (c .link) x (a .there)))
+    module _ (l : Link) (is : l ≡ linkIn links (c .link)) where
+      pub first-node : l .first < length parents
+      unfolding netOf
+      first-node = rw is (first-in g (a .before) (c .link) (a .there))
 
-        fresh-taken : tableVerdict (netOf (setLink links c) parents search) entries ≡ Taken
-        unfolding tableVerdict netOf
-        fresh-taken =
-            both-taken _ _ (taken (netOf (setLink links c) parents search) (still-sound links parents search c a))
-            (both-taken _ _ (if-passes _ NoRoom 0 (le-ltb (entriesIn entries) (length parents) room)) none-left)
-          where
-            room : length parents ≤ entriesIn entries
-            room = table-room (netOf links parents search) entries Taken (sym table-taken) refl
+      pub second-node : l .second < length parents
+      unfolding netOf
+      second-node = rw is (second-in g (a .before) (c .link) (a .there))
 
-        made-same : (x : ℕ) → marked marks x ≡ onWay links parents search c a x → freshAt (netOf (setLink links c) parents search) marks entries x ≡ madeAt links parents search c a entries x
-        unfolding freshAt madeAt
-        made-same x w = rw w
+      module _ (one : List ℕ) (climb : Moved (λ x. under (treeOf g) x (l .first)) flip (replicate {A = ℕ} nodeLimit 0) one) where
+        pub marks-still : length parents ≤ length one
+        marks-still = omega (arith, marks-room, climb .size)
 
-        fresh-rows : freshRow (netOf (setLink links c) parents search) marks entries ≡ rowsTo (freshAt (netOf (setLink links c) parents search) marks entries) (length parents) ++ pastEntries (length parents) entries
-        unfolding freshRow netOf
-        fresh-rows = rw fresh-taken
+        module _ (marks : List ℕ) (other : Moved (λ x. under (treeOf g) x (l .second)) flip one marks) where
+          marked-is : (x : ℕ) → x < length parents → marked marks x ≡ onWay links parents search c a x
+          unfolding onWay netOf
+          marked-is x m =
+              turned-twice _ _ one marks climb other x (omega (arith, m, few))
+              ∙ (ap
+              (λ (k : Link). differ (under (treeOf g) x (k .first))
+              (under (treeOf g) x (k .second))) is
+              ∙ sym (link-path g (a .before) (c .link) x (a .there)))
 
-        pub apply-is : (links′ : List ℕ) → links′ ≡ setLink links c → (entries′ : List ℕ) → entries′ ≡ freshRow (netOf links′ parents search) marks entries → (links′ ≡ setLink links c) × (entries′ ≡ mended (netOf links parents search) (netOf (setLink links c) parents search) (c .link) entries)
-        apply-is links′ q entries′ e = (q, e ∙ (ap (λ (k : List ℕ). freshRow (netOf k parents search) marks entries) q ∙ (fresh-is ∙ sym (mended-rows links parents search c a entries))))
-          where
-            same : (x : ℕ) → x < length parents → freshAt (netOf (setLink links c) parents search) marks entries x ≡ madeAt links parents search c a entries x
-            same x m = made-same x (marked-is x m)
+          fresh-taken : tableVerdict (netOf (setLink links c) parents search) entries ≡ Taken
+          unfolding tableVerdict netOf
+          fresh-taken =
+              both-taken _ _ (taken (netOf (setLink links c) parents search) (still-sound links parents search c a))
+              (both-taken _ _ (if-passes _ NoRoom 0 (le-ltb (entriesIn entries) (length parents) room)) none-left)
+            where
+              room : length parents ≤ entriesIn entries
+              room = table-room g entries Taken (sym table-taken) refl
 
-            fresh-is : freshRow (netOf (setLink links c) parents search) marks entries ≡ rowsTo (madeAt links parents search c a entries) (length parents) ++ pastEntries (length parents) entries
-            fresh-is = fresh-rows ∙ ap (λ (r : List ℕ). r ++ pastEntries (length parents) entries) (rows-cong _ _ (length parents) same)
+          made-same :
+              (x : ℕ)
+              → marked marks x ≡ onWay links parents search c a x
+              → freshAt (netOf (setLink links c) parents search) marks entries x
+              ≡ madeAt links parents search c a entries x
+          unfolding freshAt madeAt
+          made-same x w = rw w
 
--- the change, one after the other
-module _ (links parents : List ℕ) (search : Search) (entries : List ℕ) (c : Change) (v : Verdict) (is : v ≡ changeVerdict (netOf links parents search) entries c) where
-  pub change-refused : (r : Refusal) → v ≡ Refused r → (v ≡ changeVerdict (netOf links parents search) entries c) × (links ≡ changed parents search c (record { links = links; entries = entries }) .links) × (entries ≡ changed parents search c (record { links = links; entries = entries }) .entries)
-  unfolding changed
-  change-refused r t = (is, rw (← is, t), rw (← is, t))
+          fresh-rows :
+              freshRow (netOf (setLink links c) parents search) marks entries
+              ≡ rowsTo (freshAt (netOf (setLink links c) parents search) marks entries) (length parents) ++ pastEntries
+              (length parents) entries
+          unfolding freshRow netOf
+          fresh-rows = rw fresh-taken
 
-  pub change-taken : v ≡ Taken → (links′ entries′ : List ℕ) → links′ ≡ setLink links c → entries′ ≡ mended (netOf links parents search) (netOf (setLink links c) parents search) (c .link) entries → (Taken ≡ changeVerdict (netOf links parents search) entries c) × (links′ ≡ changed parents search c (record { links = links; entries = entries }) .links) × (entries′ ≡ changed parents search c (record { links = links; entries = entries }) .entries)
-  unfolding changed
-  change-taken t links′ entries′ p q = (sym t ∙ is, rw (← is, t) p, rw (← is, t) q)
+          pub apply-is :
+              (links′ : List ℕ)
+              → links′ ≡ setLink links c → (entries′ : List ℕ)
+              → entries′ ≡ freshRow (netOf links′ parents search) marks entries
+              → (links′ ≡ setLink links c)
+              × (entries′ ≡ mended g (netOf (setLink links c) parents search) (c .link) entries)
+          apply-is links′ q entries′ e = (
+            q,
+            e
+                ∙ (ap (λ (k : List ℕ). freshRow (netOf k parents search) marks entries) q
+                ∙ (fresh-is ∙ sym (mended-rows links parents search c a entries))),
+          )
+            where
+              same : (x : ℕ) → x < length parents → freshAt (netOf (setLink links c) parents search) marks entries x ≡ madeAt links parents search c a entries x
+              same x m = made-same x (marked-is x m)
+
+              fresh-is :
+                  freshRow (netOf (setLink links c) parents search) marks entries
+                  ≡ rowsTo (madeAt links parents search c a entries) (length parents) ++ pastEntries (length parents)
+                  entries
+              fresh-is = fresh-rows ∙ ap (λ (r : List ℕ). r ++ pastEntries (length parents) entries) (rows-cong _ _ (length parents) same)
+
+  -- the change, one after the other
+  module _ (entries : List ℕ) (c : Change) (v : Verdict) (is : v ≡ changeVerdict g entries c) where
+    pub change-refused :
+        (r : Refusal)
+        → v ≡ Refused r
+        → (v ≡ changeVerdict g entries c)
+        × (links ≡ changed parents search c (record { links = links; entries = entries }) .links)
+        × (entries ≡ changed parents search c (record { links = links; entries = entries }) .entries)
+    unfolding changed
+    change-refused r t = (is, rw (← is, t), rw (← is, t))
+
+    pub change-taken :
+        v ≡ Taken
+        → (links′ entries′ : List ℕ) → links′ ≡ setLink links c
+        → entries′ ≡ mended g (netOf (setLink links c) parents search) (c .link) entries
+        → (Taken ≡ changeVerdict g entries c)
+        × (links′ ≡ changed parents search c (record { links = links; entries = entries }) .links)
+        × (entries′ ≡ changed parents search c (record { links = links; entries = entries }) .entries)
+    unfolding changed
+    change-taken t links′ entries′ p q = (sym t ∙ is, rw (← is, t) p, rw (← is, t) q)

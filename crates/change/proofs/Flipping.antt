@@ -12,7 +12,7 @@ use Rattle.edition.specs.declared.Verdict.the-variants.{Taken}
 use Rattle.edition.specs.Limits.{nodeLimit}
 use Rattle.rows.specs.Lists.{has, upTo, differ}
 use Rattle.rows.proofs.Listed.{upTo-out}
-use Rattle.network.specs.Network.{netOf}
+use Rattle.network.specs.Network.{Net, netOf}
 use Rattle.tree.specs.Tree.{Tree, treeOf, route, under}
 use Rattle.tree.proofs.Ways.{Home, under-self}
 use Rattle.tree.proofs.Bounded.{under-below}
@@ -35,49 +35,59 @@ pub record Flipping (t : Tree) (u : ℕ) (before : List ℕ) (c : ℕ) (after : 
   pub on : under t c u ≡ true
   pub turned : Moved (λ x. has x (upTo c (route t u))) flip before after
 
-module _ (links parents : List ℕ) (search : Search) (ok : netVerdict (netOf links parents search) ≡ Taken) (u : ℕ) (low : u < length parents) (before : List ℕ) (room : length parents ≤ length before) where
-  s : Sound (netOf links parents search)
-  s = sound (netOf links parents search) ok
+module _ (links parents : List ℕ) (search : Search) where
+  abbrev g : Net
+  g = netOf links parents search
 
-  hu : Home (treeIn links parents search) u
-  unfolding netOf
-  hu = home (netOf links parents search) s u low
+  module _ (ok : netVerdict g ≡ Taken) (u : ℕ) (low : u < length parents) (before : List ℕ) (room : length parents ≤ length before) where
+    s : Sound g
+    s = sound g ok
 
-  pub flip-start : Flipping (treeIn links parents search) u before u before
-  flip-start =
-      record {
-        on = under-self (treeIn links parents search) u hu;
-        turned = moved-none _ _ before (passed-none (treeIn links parents search) u hu);
-      }
+    hu : Home (treeIn links parents search) u
+    unfolding netOf
+    hu = home g s u low
 
-  module _ (c : ℕ) (after : List ℕ) (i : Flipping (treeIn links parents search) u before c after) where
-    pub flip-room : c < length after
-    unfolding treeOf netOf
-    flip-room =
-        omega (arith, i .turned .size, room, under-below (treeIn links parents search) (up-in (netOf links parents search) s) u c hu low (i .on))
+    pub flip-start : Flipping (treeIn links parents search) u before u before
+    flip-start =
+        record {
+          on = under-self (treeIn links parents search) u hu;
+          turned = moved-none _ _ before (passed-none (treeIn links parents search) u hu);
+        }
 
-    module _ (next : List ℕ) (h : next ≡ flippedAt c after) where
-      turn : (done : ℕ → Bool) → ((x : ℕ) → done x ≡ (has x (upTo c (route (treeIn links parents search) u)) || eqb c x)) → Moved done flip before next
-      unfolding flippedAt
-      turn done q = rw h (moved-more flip _ done before after c _ (i .turned) flip-room (upTo-out c (route (treeIn links parents search) u)) q refl)
+    module _ (c : ℕ) (after : List ℕ) (i : Flipping (treeIn links parents search) u before c after) where
+      pub flip-room : c < length after
+      unfolding treeOf netOf
+      flip-room =
+          omega (arith, i .turned .size, room, under-below (treeIn links parents search) (up-in g s) u c hu low (i .on))
 
-      pub flip-more : (c ≡ search .root → ⊥) → (d : ℕ) → d ≡ treeIn links parents search .up c → Flipping (treeIn links parents search) u before d next
-      flip-more n d q =
-          let r = off-root links parents search c n in
-          rw q
-          (record {
-            on = on-parent (treeIn links parents search) u hu c (i .on) r;
-            turned = turn _ (passed-more (treeIn links parents search) u hu c (i .on) r);
-          })
+      module _ (next : List ℕ) (h : next ≡ flippedAt c after) where
+        turn : (done : ℕ → Bool) → ((x : ℕ) → done x ≡ (has x (upTo c (route (treeIn links parents search) u)) || eqb c x)) → Moved done flip before next
+        unfolding flippedAt
+        turn done q = rw h (moved-more flip _ done before after c _ (i .turned) flip-room (upTo-out c (route (treeIn links parents search) u)) q refl)
 
-      pub flip-less : (c ≡ search .root → ⊥) → (d : ℕ) → d ≡ treeIn links parents search .up c → length (route (treeIn links parents search) d) < length (route (treeIn links parents search) c)
-      flip-less n d q = rw q (omega (arith, shorter (treeIn links parents search) u hu c (i .on) (off-root links parents search c n)))
+        pub flip-more : (c ≡ search .root → ⊥) → (d : ℕ) → d ≡ treeIn links parents search .up c → Flipping (treeIn links parents search) u before d next
+        flip-more n d q =
+            let r = off-root links parents search c n in
+            rw q
+            (record {
+              on = on-parent (treeIn links parents search) u hu c (i .on) r;
+              turned = turn _ (passed-more (treeIn links parents search) u hu c (i .on) r);
+            })
 
-      pub flip-end : c ≡ search .root → Moved (λ x. under (treeIn links parents search) x u) flip before next
-      flip-end e = turn _ (passed-all (treeIn links parents search) u hu c (i .on) (at-root links parents search c e))
+        pub flip-less :
+            (c ≡ search .root → ⊥)
+            → (d : ℕ) → d ≡ treeIn links parents search .up c
+            → length (route (treeIn links parents search) d) < length (route (treeIn links parents search) c)
+        flip-less n d q = rw q (omega (arith, shorter (treeIn links parents search) u hu c (i .on) (off-root links parents search c n)))
+
+        pub flip-end : c ≡ search .root → Moved (λ x. under (treeIn links parents search) x u) flip before next
+        flip-end e = turn _ (passed-all (treeIn links parents search) u hu c (i .on) (at-root links parents search c e))
 
 -- two climbs over a row of zeros
-pub turned-twice : (p q : ℕ → Bool) (one two : List ℕ) → Moved p flip (replicate nodeLimit 0) one → Moved q flip one two → (x : ℕ) → x < nodeLimit → marked two x ≡ differ (p x) (q x)
+pub turned-twice :
+    (p q : ℕ → Bool) (one two : List ℕ)
+    → Moved p flip (replicate nodeLimit 0) one → Moved q flip one two → (x : ℕ) → x < nodeLimit
+    → marked two x ≡ differ (p x) (q x)
 unfolding marked flip
 turned-twice p q one two m n x l = go (p x) (q x) refl refl
   where

@@ -17,7 +17,7 @@ use Rattle.rows.proofs.Records.{rows-cong}
 use Rattle.entries.specs.Row.{entryRow, entriesIn, standing, pastEntries}
 use Rattle.entries.proofs.Keeping.{Sized, entry-sized, standing-sized, rows-past, rows-standing}
 use Rattle.network.specs.declared.Link.{Link}
-use Rattle.network.specs.Network.{linksIn, linkIn, netOf, inService}
+use Rattle.network.specs.Network.{Net, linksIn, linkIn, netOf, inService}
 use Rattle.tree.specs.Tree.{Tree, treeOf, under, onPath}
 use Rattle.sound.proofs.Holding.{link-path}
 use Rattle.swap.specs.Swap.{crosses}
@@ -33,93 +33,126 @@ no-cross : (t : Tree) (x k : ℕ) (l : Link) → differ (under t x (l .first)) (
 unfolding crosses
 no-cross t x k l h = rw h (and-none (inService l && not (eqb k (t .link x))))
 
-module _ (links parents : List ℕ) (search : Search) (c : Change) (a : Allowed (netOf links parents search) c) where
-  -- does the tree link of x lie on the path between the ends of the changed link?
-  unfoldable pub onWay : ℕ → Bool
-  onWay x = onPath (treeOf (netOf links parents search)) (linkIn links (c .link) .first) (linkIn links (c .link) .second) x
+module _ (links parents : List ℕ) (search : Search) where
+  abbrev g : Net
+  g = netOf links parents search
 
-  there : c .link < linksIn links
-  unfolding netOf
-  there = a .there
+  module _ (c : Change) (a : Allowed g c) where
+    -- does the tree link of x lie on the path between the ends of the changed link?
+    unfoldable pub onWay : ℕ → Bool
+    onWay x = onPath (treeOf g) (linkIn links (c .link) .first) (linkIn links (c .link) .second) x
 
-  off-differs : (x : ℕ) → onWay x ≡ false → differ (under (treeOf (netOf links parents search)) x (linkIn links (c .link) .first)) (under (treeOf (netOf links parents search)) x (linkIn links (c .link) .second)) ≡ false
-  unfolding netOf onWay
-  off-differs x h = sym (link-path (netOf links parents search) (a .before) (c .link) x (a .there)) ∙ h
+    there : c .link < linksIn links
+    unfolding netOf
+    there = a .there
 
-  off-alike : (x : ℕ) → onWay x ≡ false → SameFor x (netOf links parents search) (netOf (setLink links c) parents search)
-  unfolding netOf
-  off-alike x h =
-      record {
-        tree = kept-tree links parents search c a;
-        count = count-same links c;
-        search = refl;
-        link = λ k. go k (eqb k (c .link)) refl;
-      }
-    where
-      old : crosses (treeOf (netOf links parents search)) x (c .link) (linkIn links (c .link)) ≡ false
-      old = no-cross _ x (c .link) (linkIn links (c .link)) (off-differs x h)
+    off-differs :
+        (x : ℕ)
+        → onWay x ≡ false
+        → differ (under (treeOf g) x (linkIn links (c .link) .first))
+        (under (treeOf g) x (linkIn links (c .link) .second))
+        ≡ false
+    unfolding netOf onWay
+    off-differs x h = sym (link-path g (a .before) (c .link) x (a .there)) ∙ h
 
-      new : crosses (treeOf (netOf (setLink links c) parents search)) x (c .link) (linkIn (setLink links c) (c .link)) ≡ false
-      new =
-          subst (λ (t : Tree). crosses t x (c .link) (linkIn (setLink links c) (c .link)) ≡ false) (sym (kept-tree links parents search c a))
-          (subst (λ (l : Link). crosses (treeOf (netOf links parents search)) x (c .link) l ≡ false) (sym (link-set links c there))
-          (no-cross _ x (c .link) (changedLink (linkIn links (c .link)) c) (off-differs x h)))
-
-      go : (k : ℕ) (b : Bool) → eqb k (c .link) ≡ b → Alike x (netOf links parents search) (netOf (setLink links c) parents search) k
-      go k false q = same (link-other links c k q)
-      go k true q =
-          subst (λ j. Alike x (netOf links parents search) (netOf (setLink links c) parents search) j) (sym (eqb-true k (c .link) q))
-          (neither new old)
-
-  -- each entry off the path is what it was
-  pub entry-kept : (x : ℕ) → onWay x ≡ false → entry (netOf (setLink links c) parents search) x ≡ entry (netOf links parents search) x
-  entry-kept x h = entry-same x (netOf links parents search) (netOf (setLink links c) parents search) (off-alike x h)
-
-  -- what a change makes of each record, whatever the lent table held
-  unfoldable pub madeAt : List ℕ → ℕ → List ℕ
-  madeAt entries x = cond (onWay x) (entryRow (entry (netOf (setLink links c) parents search) x)) (standing entries x)
-
-  pub mended-rows : (entries : List ℕ) → mended (netOf links parents search) (netOf (setLink links c) parents search) (c .link) entries ≡ rowsTo (madeAt entries) (length parents) ++ pastEntries (length parents) entries
-  unfolding mended mendedAt netOf madeAt onWay
-  mended-rows entries = refl
-
-  module _ (entries : List ℕ) (room : length parents ≤ entriesIn entries) where
-    pub made-size : (x : ℕ) → x < length parents → Sized (madeAt entries x)
-    unfolding madeAt
-    made-size x l = go (onWay x) refl
+    off-alike : (x : ℕ) → onWay x ≡ false → SameFor x g (netOf (setLink links c) parents search)
+    unfolding netOf
+    off-alike x h =
+        record {
+          tree = kept-tree links parents search c a;
+          count = count-same links c;
+          search = refl;
+          link = λ k. go k (eqb k (c .link)) refl;
+        }
       where
-        go : (b : Bool) → onWay x ≡ b → Sized (madeAt entries x)
-        go true h = rw h (entry-sized (entry (netOf (setLink links c) parents search) x))
-        go false h = rw h (standing-sized entries x (omega (arith, l, room)))
+        old : crosses (treeOf g) x (c .link) (linkIn links (c .link)) ≡ false
+        old = no-cross _ x (c .link) (linkIn links (c .link)) (off-differs x h)
 
-    pub mended-at : (x : ℕ) → x < length parents → standing (mended (netOf links parents search) (netOf (setLink links c) parents search) (c .link) entries) x ≡ madeAt entries x
-    mended-at x l =
-        ap (λ (r : List ℕ). standing r x) (mended-rows entries)
-        ∙ rows-standing (madeAt entries) (length parents) made-size (pastEntries (length parents) entries) x l
+        new : crosses (treeOf (netOf (setLink links c) parents search)) x (c .link) (linkIn (setLink links c) (c .link)) ≡ false
+        new =
+            subst (λ (t : Tree). crosses t x (c .link) (linkIn (setLink links c) (c .link)) ≡ false) (sym (kept-tree links parents search c a))
+            (subst (λ (l : Link). crosses (treeOf g) x (c .link) l ≡ false) (sym (link-set links c there))
+            (no-cross _ x (c .link) (changedLink (linkIn links (c .link)) c) (off-differs x h)))
 
-    -- each entry on the path is the fresh one, also where the lent table was wrong
-    pub on-path-fresh : (x : ℕ) → x < length parents → onWay x ≡ true → standing (mended (netOf links parents search) (netOf (setLink links c) parents search) (c .link) entries) x ≡ entryRow (entry (netOf (setLink links c) parents search) x)
-    unfolding madeAt
-    on-path-fresh x l h = mended-at x l ∙ rw h
+        go : (k : ℕ) (b : Bool) → eqb k (c .link) ≡ b → Alike x g (netOf (setLink links c) parents search) k
+        go k false q = same (link-other links c k q)
+        go k true q =
+            subst (λ j. Alike x g (netOf (setLink links c) parents search) j) (sym (eqb-true k (c .link) q))
+            (neither new old)
 
-    -- each entry off the path stands as it stood
-    pub off-path-kept : (x : ℕ) → x < length parents → onWay x ≡ false → standing (mended (netOf links parents search) (netOf (setLink links c) parents search) (c .link) entries) x ≡ standing entries x
-    unfolding madeAt
-    off-path-kept x l h = mended-at x l ∙ rw h
+    -- each entry off the path is what it was
+    pub entry-kept : (x : ℕ) → onWay x ≡ false → entry (netOf (setLink links c) parents search) x ≡ entry g x
+    entry-kept x h = entry-same x g (netOf (setLink links c) parents search) (off-alike x h)
 
-  -- a right table is right after the change, and what lay past it stays
-  pub mended-right : (rest : List ℕ) → mended (netOf links parents search) (netOf (setLink links c) parents search) (c .link) (table (netOf links parents search) ++ rest) ≡ table (netOf (setLink links c) parents search) ++ rest
-  unfolding table netOf madeAt
-  mended-right rest =
-      mended-rows (table (netOf links parents search) ++ rest)
-      ∙ ap₂ (λ (r s : List ℕ). r ++ s) (rows-cong _ _ (length parents) (λ x l. go x l (onWay x) refl)) past
-    where
-      past : pastEntries (length parents) (table (netOf links parents search) ++ rest) ≡ rest
-      past = rows-past (λ x. entryRow (entry (netOf links parents search) x)) (length parents) (λ x l. entry-sized (entry (netOf links parents search) x)) rest
+    -- what a change makes of each record, whatever the lent table held
+    unfoldable pub madeAt : List ℕ → ℕ → List ℕ
+    madeAt entries x = cond (onWay x) (entryRow (entry (netOf (setLink links c) parents search) x)) (standing entries x)
 
-      go : (x : ℕ) → x < length parents → (b : Bool) → onWay x ≡ b → madeAt (table (netOf links parents search) ++ rest) x ≡ entryRow (entry (netOf (setLink links c) parents search) x)
-      go x l true h = rw h
-      go x l false h =
-          rw h
-          (rows-standing (λ y. entryRow (entry (netOf links parents search) y)) (length parents) (λ y m. entry-sized (entry (netOf links parents search) y)) rest x l
-          ∙ ap entryRow (sym (entry-kept x h)))
+    pub mended-rows :
+        (entries : List ℕ)
+        → mended g (netOf (setLink links c) parents search) (c .link) entries
+        ≡ rowsTo (madeAt entries) (length parents) ++ pastEntries (length parents) entries
+    unfolding mended mendedAt netOf madeAt onWay
+    mended-rows entries = refl
+
+    module _ (entries : List ℕ) (room : length parents ≤ entriesIn entries) where
+      pub made-size : (x : ℕ) → x < length parents → Sized (madeAt entries x)
+      unfolding madeAt
+      made-size x l = go (onWay x) refl
+        where
+          go : (b : Bool) → onWay x ≡ b → Sized (madeAt entries x)
+          go true h = rw h (entry-sized (entry (netOf (setLink links c) parents search) x))
+          go false h = rw h (standing-sized entries x (omega (arith, l, room)))
+
+      pub mended-at :
+          (x : ℕ)
+          → x < length parents
+          → standing (mended g (netOf (setLink links c) parents search) (c .link) entries) x
+          ≡ madeAt entries x
+      mended-at x l =
+          ap (λ (r : List ℕ). standing r x) (mended-rows entries)
+          ∙ rows-standing (madeAt entries) (length parents) made-size (pastEntries (length parents) entries) x l
+
+      -- each entry on the path is the fresh one, also where the lent table was wrong
+      pub on-path-fresh :
+          (x : ℕ)
+          → x < length parents → onWay x ≡ true
+          → standing (mended g (netOf (setLink links c) parents search) (c .link) entries) x
+          ≡ entryRow (entry (netOf (setLink links c) parents search) x)
+      unfolding madeAt
+      on-path-fresh x l h = mended-at x l ∙ rw h
+
+      -- each entry off the path stands as it stood
+      pub off-path-kept :
+          (x : ℕ)
+          → x < length parents → onWay x ≡ false
+          → standing (mended g (netOf (setLink links c) parents search) (c .link) entries) x
+          ≡ standing entries x
+      unfolding madeAt
+      off-path-kept x l h = mended-at x l ∙ rw h
+
+    -- a right table is right after the change, and what lay past it stays
+    pub mended-right :
+        (rest : List ℕ)
+        → mended g (netOf (setLink links c) parents search) (c .link)
+        (table g ++ rest)
+        ≡ table (netOf (setLink links c) parents search) ++ rest
+    unfolding table netOf madeAt
+    mended-right rest =
+        mended-rows (table g ++ rest)
+        ∙ ap₂ (λ (r s : List ℕ). r ++ s) (rows-cong _ _ (length parents) (λ x l. go x l (onWay x) refl)) past
+      where
+        past : pastEntries (length parents) (table g ++ rest) ≡ rest
+        past = rows-past (λ x. entryRow (entry g x)) (length parents) (λ x l. entry-sized (entry g x)) rest
+
+        go :
+            (x : ℕ)
+            → x < length parents → (b : Bool) → onWay x ≡ b
+            → madeAt (table g ++ rest) x
+            ≡ entryRow (entry (netOf (setLink links c) parents search) x)
+        go x l true h = rw h
+        go x l false h =
+            rw h
+            (rows-standing (λ y. entryRow (entry g y)) (length parents)
+            (λ y m. entry-sized (entry g y)) rest x l
+            ∙ ap entryRow (sym (entry-kept x h)))

@@ -15,7 +15,7 @@ use Rattle.rows.proofs.Records.{rows-cong}
 use Rattle.entries.specs.Row.{entryRow, entriesIn, standing, pastEntries}
 use Rattle.entries.proofs.Keeping.{rows-past}
 use Rattle.network.specs.declared.Link.{Link}
-use Rattle.network.specs.Network.{linkIn, netOf}
+use Rattle.network.specs.Network.{Net, linkIn, netOf}
 use Rattle.tree.specs.Tree.{Tree, treeOf, onPath}
 use Rattle.swap.specs.Entry.{entry}
 use Rattle.table.proofs.Whole.{table-room}
@@ -25,61 +25,94 @@ use Rattle.change.proofs.Setting.{link-other, sets-agree}
 use Rattle.change.proofs.Staying.{Allowed, allowed, kept-tree}
 use Rattle.change.proofs.Mending.{onWay, madeAt, made-size, mended-rows, mended-at, entry-kept}
 
-module _ (links parents : List ℕ) (search : Search) (entries : List ℕ) (room : length parents ≤ entriesIn entries) where
-  -- does the tree link of x lie on the path between the ends of the link that is changed?
-  unfoldable wayOf : Change → ℕ → Bool
-  wayOf c x = onPath (treeOf (netOf links parents search)) (linkIn links (c .link) .first) (linkIn links (c .link) .second) x
+module _ (links parents : List ℕ) (search : Search) where
+  abbrev g : Net
+  g = netOf links parents search
 
-  -- what both changes make of each record
-  unfoldable bothAt : Change → Change → List ℕ → ℕ → List ℕ
-  bothAt c d after x = cond (wayOf c x || wayOf d x) (entryRow (entry (netOf after parents search) x)) (standing entries x)
+  module _ (entries : List ℕ) (room : length parents ≤ entriesIn entries) where
+    -- does the tree link of x lie on the path between the ends of the link that is changed?
+    unfoldable wayOf : Change → ℕ → Bool
+    wayOf c x = onPath (treeOf g) (linkIn links (c .link) .first) (linkIn links (c .link) .second) x
 
-  module _ (c d : Change) (n : c .link ≡ d .link → ⊥) (a : Allowed (netOf links parents search) c) (b : Allowed (netOf (setLink links c) parents search) d) where
-    unfoldable middle : List ℕ
-    middle = mended (netOf links parents search) (netOf (setLink links c) parents search) (c .link) entries
+    -- what both changes make of each record
+    unfoldable bothAt : Change → Change → List ℕ → ℕ → List ℕ
+    bothAt c d after x = cond (wayOf c x || wayOf d x) (entryRow (entry (netOf after parents search) x)) (standing entries x)
 
-    other-way : (x : ℕ) → onWay (setLink links c) parents search d b x ≡ wayOf d x
-    unfolding onWay wayOf
-    other-way x =
-        subst (λ (t : Tree). onPath t (linkIn (setLink links c) (d .link) .first) (linkIn (setLink links c) (d .link) .second) x ≡ onPath (treeOf (netOf links parents search)) (linkIn links (d .link) .first) (linkIn links (d .link) .second) x) (sym (kept-tree links parents search c a))
-        (ap (λ (l : Link). onPath (treeOf (netOf links parents search)) (l .first) (l .second) x) (link-other links c (d .link) (ne-eqb (d .link) (c .link) (λ e. n (sym e)))))
+    module _ (c d : Change) (n : c .link ≡ d .link → ⊥) (a : Allowed g c) (b : Allowed (netOf (setLink links c) parents search) d) where
+      unfoldable middle : List ℕ
+      middle = mended g (netOf (setLink links c) parents search) (c .link) entries
 
-    middle-at : (x : ℕ) → x < length parents → standing middle x ≡ cond (wayOf c x) (entryRow (entry (netOf (setLink links c) parents search) x)) (standing entries x)
-    unfolding middle madeAt onWay wayOf
-    middle-at x l = mended-at links parents search c a entries room x l
+      other-way : (x : ℕ) → onWay (setLink links c) parents search d b x ≡ wayOf d x
+      unfolding onWay wayOf
+      other-way x =
+          subst
+          (λ (t : Tree). onPath t (linkIn (setLink links c) (d .link) .first)
+          (linkIn (setLink links c) (d .link) .second) x
+          ≡ onPath (treeOf g) (linkIn links (d .link) .first)
+          (linkIn links (d .link) .second) x)
+          (sym (kept-tree links parents search c a))
+          (ap (λ (l : Link). onPath (treeOf g) (l .first) (l .second) x)
+          (link-other links c (d .link) (ne-eqb (d .link) (c .link) (λ e. n (sym e)))))
 
-    both-is : (x : ℕ) → x < length parents → madeAt (setLink links c) parents search d b middle x ≡ bothAt c d (setLink (setLink links c) d) x
-    unfolding madeAt bothAt
-    both-is x l = go (wayOf d x) (wayOf c x) refl refl
-      where
-        go : (p q : Bool) → wayOf d x ≡ p → wayOf c x ≡ q → cond (onWay (setLink links c) parents search d b x) (entryRow (entry (netOf (setLink (setLink links c) d) parents search) x)) (standing middle x) ≡ cond (wayOf c x || wayOf d x) (entryRow (entry (netOf (setLink (setLink links c) d) parents search) x)) (standing entries x)
-        go true true e f = rw (other-way x, e, f)
-        go true false e f = rw (other-way x, e, f)
-        go false true e f =
-            rw (other-way x, e, middle-at x l, f) (ap entryRow (sym (entry-kept (setLink links c) parents search d b x (other-way x ∙ e))))
-        go false false e f = rw (other-way x, e, middle-at x l, f)
+      middle-at :
+          (x : ℕ)
+          → x < length parents
+          → standing middle x
+          ≡ cond (wayOf c x) (entryRow (entry (netOf (setLink links c) parents search) x)) (standing entries x)
+      unfolding middle madeAt onWay wayOf
+      middle-at x l = mended-at links parents search c a entries room x l
 
-    past : pastEntries (length parents) middle ≡ pastEntries (length parents) entries
-    unfolding middle
-    past =
-        ap (pastEntries (length parents)) (mended-rows links parents search c a entries)
-        ∙ rows-past (madeAt links parents search c a entries) (length parents) (made-size links parents search c a entries room) (pastEntries (length parents) entries)
+      both-is : (x : ℕ) → x < length parents → madeAt (setLink links c) parents search d b middle x ≡ bothAt c d (setLink (setLink links c) d) x
+      unfolding madeAt bothAt
+      both-is x l = go (wayOf d x) (wayOf c x) refl refl
+        where
+          go :
+              (p q : Bool)
+              → wayOf d x ≡ p → wayOf c x ≡ q
+              → cond (onWay (setLink links c) parents search d b x)
+              (entryRow (entry (netOf (setLink (setLink links c) d) parents search) x)) (standing middle x)
+              ≡ cond (wayOf c x || wayOf d x) (entryRow (entry (netOf (setLink (setLink links c) d) parents search) x))
+              (standing entries x)
+          go true true e f = rw (other-way x, e, f)
+          go true false e f = rw (other-way x, e, f)
+          go false true e f =
+              rw (other-way x, e, middle-at x l, f) (ap entryRow (sym (entry-kept (setLink links c) parents search d b x (other-way x ∙ e))))
+          go false false e f = rw (other-way x, e, middle-at x l, f)
 
-    both-rows : mended (netOf (setLink links c) parents search) (netOf (setLink (setLink links c) d) parents search) (d .link) middle ≡ rowsTo (bothAt c d (setLink (setLink links c) d)) (length parents) ++ pastEntries (length parents) entries
-    both-rows =
-        mended-rows (setLink links c) parents search d b middle
-        ∙ ap₂ (λ (r s : List ℕ). r ++ s) (rows-cong _ _ (length parents) both-is) past
+      past : pastEntries (length parents) middle ≡ pastEntries (length parents) entries
+      unfolding middle
+      past =
+          ap (pastEntries (length parents)) (mended-rows links parents search c a entries)
+          ∙ rows-past (madeAt links parents search c a entries) (length parents)
+          (made-size links parents search c a entries room) (pastEntries (length parents) entries)
 
-  -- the two changes may change places
-  tables-agree : (c d : Change) → (c .link ≡ d .link → ⊥) → (ac : Allowed (netOf links parents search) c) (bd : Allowed (netOf (setLink links c) parents search) d) (ad : Allowed (netOf links parents search) d) (bc : Allowed (netOf (setLink links d) parents search) c) → mended (netOf (setLink links c) parents search) (netOf (setLink (setLink links c) d) parents search) (d .link) (mended (netOf links parents search) (netOf (setLink links c) parents search) (c .link) entries) ≡ mended (netOf (setLink links d) parents search) (netOf (setLink (setLink links d) c) parents search) (c .link) (mended (netOf links parents search) (netOf (setLink links d) parents search) (d .link) entries)
-  unfolding middle bothAt
-  tables-agree c d n ac bd ad bc =
-      both-rows c d n ac bd
-      ∙ (ap (λ (r : List ℕ). r ++ pastEntries (length parents) entries)
-      (rows-cong _ _ (length parents)
-      (λ x l.
-      ap₂ (λ (k : List ℕ) (w : Bool). cond w (entryRow (entry (netOf k parents search) x)) (standing entries x)) (sets-agree links c d n) (or-swap (wayOf c x) (wayOf d x))))
-      ∙ sym (both-rows d c (λ e. n (sym e)) ad bc))
+      both-rows :
+          mended (netOf (setLink links c) parents search) (netOf (setLink (setLink links c) d) parents search) (d .link)
+          middle
+          ≡ rowsTo (bothAt c d (setLink (setLink links c) d)) (length parents) ++ pastEntries (length parents) entries
+      both-rows =
+          mended-rows (setLink links c) parents search d b middle
+          ∙ ap₂ (λ (r s : List ℕ). r ++ s) (rows-cong _ _ (length parents) both-is) past
+
+    -- the two changes may change places
+    tables-agree :
+        (c d : Change)
+        → (c .link ≡ d .link → ⊥)
+        → (ac : Allowed g c) (bd : Allowed (netOf (setLink links c) parents search) d)
+        (ad : Allowed g d) (bc : Allowed (netOf (setLink links d) parents search) c)
+        → mended (netOf (setLink links c) parents search) (netOf (setLink (setLink links c) d) parents search) (d .link)
+        (mended g (netOf (setLink links c) parents search) (c .link) entries)
+        ≡ mended (netOf (setLink links d) parents search) (netOf (setLink (setLink links d) c) parents search) (c .link)
+        (mended g (netOf (setLink links d) parents search) (d .link) entries)
+    unfolding middle bothAt
+    tables-agree c d n ac bd ad bc =
+        both-rows c d n ac bd
+        ∙ (ap (λ (r : List ℕ). r ++ pastEntries (length parents) entries)
+        (rows-cong _ _ (length parents)
+        (λ x l.
+        ap₂ (λ (k : List ℕ) (w : Bool). cond w (entryRow (entry (netOf k parents search) x)) (standing entries x))
+        (sets-agree links c d n) (or-swap (wayOf c x) (wayOf d x))))
+        ∙ sym (both-rows d c (λ e. n (sym e)) ad bc))
 
 -- a change that is taken, in the words of the contract
 module _ (parents : List ℕ) (search : Search) where
@@ -105,7 +138,12 @@ module _ (parents : List ℕ) (search : Search) where
   unfolding Takes
   may c lent t = allowed (netOf (lent .links) parents search) (lent .entries) c t
 
-  both-same : (c d : Change) (lent : Lent) → (c .link ≡ d .link → ⊥) → length parents ≤ entriesIn (lent .entries) → Allowed (netOf (lent .links) parents search) c → Allowed (netOf (after c lent .links) parents search) d → Allowed (netOf (lent .links) parents search) d → Allowed (netOf (after d lent .links) parents search) c → after d (after c lent) ≡ after c (after d lent)
+  both-same :
+      (c d : Change) (lent : Lent)
+      → (c .link ≡ d .link → ⊥) → length parents ≤ entriesIn (lent .entries)
+      → Allowed (netOf (lent .links) parents search) c → Allowed (netOf (after c lent .links) parents search) d
+      → Allowed (netOf (lent .links) parents search) d → Allowed (netOf (after d lent .links) parents search) c
+      → after d (after c lent) ≡ after c (after d lent)
   unfolding after
   both-same c d lent n room ac bd ad bc =
       λ i.
@@ -115,7 +153,12 @@ module _ (parents : List ℕ) (search : Search) where
       }
 
   -- two changes of different links do the same in either order
-  pub orders-agree : (c d : Change) (lent : Lent) → (c .link ≡ d .link → ⊥) → Takes c lent → Takes d (changed parents search c lent) → Takes d lent → Takes c (changed parents search d lent) → changed parents search d (changed parents search c lent) ≡ changed parents search c (changed parents search d lent)
+  pub orders-agree :
+      (c d : Change) (lent : Lent)
+      → (c .link ≡ d .link → ⊥) → Takes c lent → Takes d (changed parents search c lent) → Takes d lent
+      → Takes c (changed parents search d lent)
+      → changed parents search d (changed parents search c lent)
+      ≡ changed parents search c (changed parents search d lent)
   orders-agree c d lent n tc td ud uc =
       ap (changed parents search d) (changed-is c lent tc)
       ∙ (changed-is d (after c lent) second

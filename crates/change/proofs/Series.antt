@@ -17,7 +17,10 @@ use Rattle.change.proofs.Mending.{mended-right}
 
 module _ (parents : List ℕ) (search : Search) where
   -- a refused change leaves network and table equal
-  pub refused-kept : (c : Change) (lent : Lent) (r : Refusal) → changeVerdict (netOf (lent .links) parents search) (lent .entries) c ≡ Refused r → changed parents search c lent ≡ lent
+  pub refused-kept :
+      (c : Change) (lent : Lent) (r : Refusal)
+      → changeVerdict (netOf (lent .links) parents search) (lent .entries) c ≡ Refused r
+      → changed parents search c lent ≡ lent
   unfolding changed
   refused-kept c lent r q = rw q
 

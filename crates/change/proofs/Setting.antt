@@ -33,7 +33,8 @@ module _ (links : List ℕ) (c : Change) where
     pub tree-same : treeOf (netOf (setLink links c) parents search) ≡ treeOf (netOf links parents search)
     unfolding treeOf netOf
     tree-same =
-        let kept : (u : ℕ) → linkIn (setLink links c) (getD parents u noLink) ≡ linkIn links (getD parents u noLink) = λ u. link-other (getD parents u noLink) (spare u) in
+        let kept : (u : ℕ) → linkIn (setLink links c) (getD parents u noLink) ≡ linkIn links (getD parents u noLink) =
+        λ u. link-other (getD parents u noLink) (spare u) in
         λ i.
         record {
           size = length parents;
@@ -44,7 +45,12 @@ module _ (links : List ℕ) (c : Change) where
         }
 
 -- of two changes of different links the second finds its record as it was
-second-finds : (links : List ℕ) (c d : Change) → (d .link ≡ c .link → ⊥) → setLink (setLink links c) d ≡ putLink (putLink links (c .link) (changedLink (linkIn links (c .link)) c)) (d .link) (changedLink (linkIn links (d .link)) d)
+second-finds :
+    (links : List ℕ) (c d : Change)
+    → (d .link ≡ c .link → ⊥)
+    → setLink (setLink links c) d
+    ≡ putLink (putLink links (c .link) (changedLink (linkIn links (c .link)) c)) (d .link)
+    (changedLink (linkIn links (d .link)) d)
 unfolding setLink
 second-finds links c d n =
     let first = putLink links (c .link) (changedLink (linkIn links (c .link)) c) in

@@ -139,7 +139,9 @@ module _ (file links parents entries header : List ℕ) where
 
   abbrev pub Read : ℕ → List ℕ → List ℕ → List ℕ → List ℕ → Type 0
   Read w links′ parents′ entries′ header′ =
-      (w ≡ wordOf (readSaid file lent header)) × (links′ ≡ rowsLeft file lent header .links) × (parents′ ≡ rowsLeft file lent header .parents) × (entries′ ≡ rowsLeft file lent header .entries) × (header′ ≡ headerRow file lent header)
+      (w ≡ wordOf (readSaid file lent header))
+      × (links′ ≡ rowsLeft file lent header .links) × (parents′ ≡ rowsLeft file lent header .parents)
+      × (entries′ ≡ rowsLeft file lent header .entries) × (header′ ≡ headerRow file lent header)
 
   read-kept : (w : ℕ) (r : Refusal) → w ≡ wordOf (Refused r) → readSaid file lent header ≡ Refused r → Read w links parents entries header
   unfolding rowsLeft headerRow told
@@ -151,19 +153,41 @@ module _ (file links parents entries header : List ℕ) where
   unfolding readSaid
   read-short l w q = read-kept w _ q (room-lacks 4 header (readVerdict file lent) l)
 
-  module _ (l : 4 ≤ length header) (a : ReadAnswer) (q : a ≡ readAnswer file lent) (links′ parents′ entries′ : List ℕ) (e : links′ ≡ rowsRead file lent .links) (f : parents′ ≡ rowsRead file lent .parents) (h : entries′ ≡ rowsRead file lent .entries) where
+  module _ (l : 4 ≤ length header) (a : ReadAnswer) (q : a ≡ readAnswer file lent) (links′ parents′ entries′ : List ℕ)
+      (e : links′ ≡ rowsRead file lent .links) (f : parents′ ≡ rowsRead file lent .parents)
+      (h : entries′ ≡ rowsRead file lent .entries) where
     pub read-refused : (r : Refusal) → a ≡ read.Not r → (w : ℕ) → w ≡ wordOf (Refused r) → Read w links′ parents′ entries′ header
     unfolding readAnswer readSaid rowsRead
     read-refused r t w p =
         let no = read-not (readVerdict file lent) (headRead file) r (sym q ∙ t) in
         let kept = read-kept w r p (room-there 4 header (readVerdict file lent) l ∙ no) in
-        let same : rowsRead file lent ≡ lent = rw no in
-        (kept .0, e ∙ (ap (λ (k : Rows). k .links) same ∙ kept .1), f ∙ (ap (λ (k : Rows). k .parents) same ∙ kept .2), h ∙ (ap (λ (k : Rows). k .entries) same ∙ kept .3), kept .4)
+        let same : rowsRead file lent ≡ lent = rw no in (
+          kept .0,
+          e
+              ∙ (ap (λ (k : Rows). k .links) same ∙ kept .1),
+          f ∙ (ap (λ (k : Rows). k .parents) same ∙ kept .2),
+          h
+              ∙ (ap (λ (k : Rows). k .entries) same ∙ kept .3),
+          kept .4,
+        )
 
-    pub read-taken : (s : Header) → a ≡ read.Is s → (header′ : List ℕ) → header′ ≡ answered (s .nodes ∷ s .links ∷ s .search .root ∷ s .search .depth ∷ []) header → Read 0 links′ parents′ entries′ header′
+    pub read-taken :
+        (s : Header)
+        → a ≡ read.Is s → (header′ : List ℕ)
+        → header′ ≡ answered (s .nodes ∷ s .links ∷ s .search .root ∷ s .search .depth ∷ []) header
+        → Read 0 links′ parents′ entries′ header′
     unfolding readAnswer readSaid headRead rowsLeft headerRow told
     read-taken s t header′ p =
         let is = read-is (readVerdict file lent) (headRead file) s (sym q ∙ t) in
         let taken : readSaid file lent header ≡ Taken = room-there 4 header (readVerdict file lent) l ∙ is .0 in
-        let same : rowsRead file lent ≡ rowsLeft file lent header = got _ _ _ taken in
-        (done-word _ taken, e ∙ ap (λ (k : Rows). k .links) same, f ∙ ap (λ (k : Rows). k .parents) same, h ∙ ap (λ (k : Rows). k .entries) same, p ∙ (ap (λ (k : Header). answered (k .nodes ∷ k .links ∷ k .search .root ∷ k .search .depth ∷ []) header) (is .1) ∙ got _ _ _ taken))
+        let same : rowsRead file lent ≡ rowsLeft file lent header = got _ _ _ taken in (
+          done-word _ taken,
+          e
+              ∙ ap (λ (k : Rows). k .links) same,
+          f ∙ ap (λ (k : Rows). k .parents) same,
+          h
+              ∙ ap (λ (k : Rows). k .entries) same,
+          p
+              ∙ (ap (λ (k : Header). answered (k .nodes ∷ k .links ∷ k .search .root ∷ k .search .depth ∷ []) header) (is .1)
+              ∙ got _ _ _ taken),
+        )

@@ -9,6 +9,7 @@ ghost use Rattle.edition.specs.declared.Why.the-variants.{NoRoom};
 ghost use Rattle.edition.specs.Refusals.{refused};
 ghost use Rattle.table.specs.Table.{tableVerdict, tableRow};
 ghost use Rattle.change.specs.Change.{changeVerdict, Lent, changed};
+ghost use Rattle.edition.specs.declared.Change.{Change};
 ghost use Rattle.doeragyeol.specs.Word.{version, placeMost, wordOf, answered};
 ghost use Rattle.doeragyeol.specs.Calls.{lentNet, lentRows, checkSaid, sizesRow, mapSaid, wordsRow, openRow, writeSaid, fileRow, lengthRow};
 ghost use Rattle.doeragyeol.specs.Calls.{readSaid, rowsLeft, headerRow};
@@ -205,9 +206,11 @@ pub extern "C" fn doeragyeol_change(
     ensures { λ r.
         let lent : Lent = record { links = now (links .entry); entries = now (entries .entry) } in
         let g = lentNet (now (links .entry)) (now (parents .entry)) root depth in
-        ⌜ (r ≡ wordOf (changeVerdict g (now (entries .entry)) (record { link = link; mark = mark; length = length })))
-        × (now (links .exit) ≡ changed (now (parents .entry)) (record { root = root; depth = depth }) (record { link = link; mark = mark; length = length }) lent .links)
-        × (now (entries .exit) ≡ changed (now (parents .entry)) (record { root = root; depth = depth }) (record { link = link; mark = mark; length = length }) lent .entries) ⌝ }
+        let change : Change = record { link = link; mark = mark; length = length } in
+        let after = changed (now (parents .entry)) (record { root = root; depth = depth }) change lent in
+        ⌜ (r ≡ wordOf (changeVerdict g (now (entries .entry)) change))
+        × (now (links .exit) ≡ after .links)
+        × (now (entries .exit) ≡ after .entries) ⌝ }
 {
     let change = Change { link, mark, length };
     word(change::change(links, parents, Search { root, depth }, entries, change))

@@ -27,7 +27,20 @@ module _ (row : List ℕ) (x : ℕ) where
         let none : x * entryWidth ≡ x * entryWidth + 0 = omega arith in
         ap (λ (j : ℕ). getD row j 0) none ∙ number 0 (omega arith)
 
-    pub entry-there : _≡_ {A = Entry} (record { state = getD row (x * entryWidth) 0; sum = record { link = getD row (x * entryWidth + 1) 0; cost = getD row (x * entryWidth + 4) 0 }; incr = record { link = getD row (x * entryWidth + 2) 0; cost = getD row (x * entryWidth + 5) 0 }; max = record { link = getD row (x * entryWidth + 3) 0; cost = getD row (x * entryWidth + 6) 0 } }) (entryAt row x)
+    pub entry-there :
+        _≡_ {A = Entry}
+        (record {
+          state =
+              getD row (x * entryWidth) 0;
+          sum =
+              record { link = getD row (x * entryWidth + 1) 0; cost = getD row (x * entryWidth + 4) 0 };
+          incr =
+              record { link = getD row (x * entryWidth + 2) 0; cost = getD row (x * entryWidth + 5) 0 };
+          max =
+              record
+              { link = getD row (x * entryWidth + 3) 0; cost = getD row (x * entryWidth + 6) 0 };
+        })
+        (entryAt row x)
     unfolding entryAt entryFrom
     entry-there =
         λ i.

@@ -23,12 +23,19 @@ use Rattle.archive.proofs.WrittenAccepted.{written-accepted}
 pub memory-within : Within memoryLimits editionLimits
 memory-within = record { nodes = omega arith; links = omega arith; depth = omega arith }
 
-sizes-fit : (links parents : List ℕ) (search : Search) → netVerdict (netOf links parents search) ≡ Taken → sizeVerdict editionLimits (length parents) (linksIn links) search ≡ Taken
+sizes-fit :
+    (links parents : List ℕ) (search : Search)
+    → netVerdict (netOf links parents search) ≡ Taken
+    → sizeVerdict editionLimits (length parents) (linksIn links) search ≡ Taken
 unfolding netVerdict netOf
 sizes-fit links parents search ok =
     sizes-grow memoryLimits editionLimits memory-within (length parents) (linksIn links) search (head-taken _ _ ok)
 
 -- the file of every sound network, of rows whose numbers have 16 bits, is taken where the lent rows have room
-pub sound-accepted : (links parents : List ℕ) (search : Search) → netVerdict (netOf links parents search) ≡ Taken → ((i : ℕ) → getD links i 0 ≤ longest) → (rows : Rows) → tight (length parents) (linksIn links) rows ≡ false → readVerdict (fileOf (netOf links parents search)) rows ≡ Taken
+pub sound-accepted :
+    (links parents : List ℕ) (search : Search)
+    → netVerdict (netOf links parents search) ≡ Taken → ((i : ℕ) → getD links i 0 ≤ longest) → (rows : Rows)
+    → tight (length parents) (linksIn links) rows ≡ false
+    → readVerdict (fileOf (netOf links parents search)) rows ≡ Taken
 sound-accepted links parents search ok held rows room =
     written-accepted links parents search ok (sizes-fit links parents search ok) held rows room

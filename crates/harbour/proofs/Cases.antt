@@ -23,7 +23,15 @@ use Rattle.map.specs.Map.{unprotected, word, mapOf, ones, lowest, mapVerdict, m
 use Rattle.change.specs.Change.{breaks, changeVerdict, setLink, mendedAt, mended, changed}
 
 pub harbour-cases : holds cases ≡ true
-unfolding numberOf entryRow sumTo maxTo someTo rowsTo onlyIf rowWith beats bestTo firstTo foundOr refusedAt refuseAt refuseIf firstly has upTo firstOf total same recordIn withRecord pastRecords standing pastEntries linkRow linkFrom linkIn putLink netOf inService touches otherEnd badNodes badLinks badRoot badDepth sizeVerdict badEnds badMark unfit badParent treeOf climb route arrives hasRoute dist under hops wayUp meet apart onPath noRoute keepsShort short notShort recordVerdict netVerdict checked lower upper crosses within candidate newDist inside cost costOf offer better before bestSwap crossed saved stateBelow state priced swapOf entry table tableVerdict tableRow marked freshAt freshRow unprotected word mapOf ones lowest mapVerdict mapRow isParent breaks changeVerdict setLink mendedAt mended changed links parents at harbour alone rootEntry bridge one two three right wrong nine linksSeven linksNine twoSeven oneNine twoNine said room after answer cases holds
+unfolding numberOf entryRow sumTo maxTo someTo rowsTo onlyIf rowWith beats bestTo firstTo foundOr refusedAt refuseAt
+    refuseIf firstly has upTo firstOf total same recordIn withRecord pastRecords standing pastEntries linkRow linkFrom
+    linkIn putLink netOf inService touches otherEnd badNodes badLinks badRoot badDepth sizeVerdict badEnds badMark unfit
+    badParent treeOf climb route arrives hasRoute dist under hops wayUp meet apart onPath noRoute keepsShort short
+    notShort recordVerdict netVerdict checked lower upper crosses within candidate newDist inside cost costOf offer
+    better before bestSwap crossed saved stateBelow state priced swapOf entry table tableVerdict tableRow marked freshAt
+    freshRow unprotected word mapOf ones lowest mapVerdict mapRow isParent breaks changeVerdict setLink mendedAt mended
+    changed links parents at harbour alone rootEntry bridge one two three right wrong nine linksSeven linksNine twoSeven
+    oneNine twoNine said room after answer cases holds
 harbour-cases = refl
 
 -- each case as an equation, to be cited by what the promises say

@@ -64,7 +64,9 @@ module _ (p : ℕ → Bool) (base : ℕ) where
     pack-more l b q =
         let size : wordBits - (j - 1) ≡ suc (wordBits - j) = omega (arith, l, s .low) in
         let first : base + (j - 1) ≡ base + (j - 1 + 0) = omega arith in
-        let others : packed (λ i. p (base + (j - 1 + suc i))) (wordBits - j) ≡ packed (λ i. p (base + (j + i))) (wordBits - j) = packed-cong _ _ (wordBits - j) (λ i m. ap p (omega (arith, l))) in
+        let others :
+        packed (λ i. p (base + (j - 1 + suc i))) (wordBits - j) ≡ packed (λ i. p (base + (j + i))) (wordBits - j) =
+        packed-cong _ _ (wordBits - j) (λ i m. ap p (omega (arith, l))) in
         let whole = shift (λ i. p (base + (j - 1 + i))) (wordBits - j) in
         record {
           low = omega (arith, s .low);

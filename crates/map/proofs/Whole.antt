@@ -90,14 +90,25 @@ module _ (g : Net) where
           ap (λ (r : List ℕ). r ++ drop mapWords words)
           (rows-cong _ _ mapWords (λ i l. ap (λ w. w ∷ []) (packed-cong _ _ wordBits (λ j m. same (i * wordBits + j)))))
 
-      told-is : Is (record { count = onesIn (wordsBy (openBy row (g .nodes)) words); lowest = lowestIn (wordsBy (openBy row (g .nodes)) words) }) ≡ Is (toldOf g)
+      told-is :
+          Is
+          (record {
+            count =
+                onesIn (wordsBy (openBy row (g .nodes)) words);
+            lowest =
+                lowestIn (wordsBy (openBy row (g .nodes)) words);
+          })
+          ≡ Is (toldOf g)
       unfolding toldOf ones lowest
       told-is =
           let counts = ones-are (openBy row (g .nodes)) (g .nodes) few past words ∙ sum-cong _ _ (g .nodes) (λ x l. ap (λ b. onlyIf b 1) (same x)) in
           let lows = lowest-is (openBy row (g .nodes)) (g .nodes) few past words ∙ ap (foundOr noNode) (first-cong _ _ (g .nodes) (λ x l. same x)) in
           rw (counts, lows)
 
-      pub map-is : (r : MapAnswer) → r ≡ toldBy (openBy row (g .nodes)) words → (after : List ℕ) → after ≡ leftBy (openBy row (g .nodes)) words → (r ≡ mapAnswer g words) × (after ≡ mapRow g words)
+      pub map-is :
+          (r : MapAnswer)
+          → r ≡ toldBy (openBy row (g .nodes)) words → (after : List ℕ) → after ≡ leftBy (openBy row (g .nodes)) words
+          → (r ≡ mapAnswer g words) × (after ≡ mapRow g words)
       unfolding toldBy leftBy mapAnswer mapRow mapVerdict refuseIf tooShort firstly
       map-is r p after s = go (ltb (length words) mapWords) refl
         where
@@ -111,7 +122,10 @@ module _ (p : ℕ → Bool) (words : List ℕ) where
   unfolding toldBy leftBy tooShort
   too-short l = (rw (lt-ltb (length words) mapWords l), rw (lt-ltb (length words) mapWords l))
 
-  pub long-enough : mapWords ≤ length words → (after : List ℕ) → after ≡ wordsBy p words → (count : ℕ) → count ≡ onesIn after → (low : ℕ) → low ≡ lowestIn after → (Is (record { count = count; lowest = low }) ≡ toldBy p words) × (after ≡ leftBy p words)
+  pub long-enough :
+      mapWords ≤ length words
+      → (after : List ℕ) → after ≡ wordsBy p words → (count : ℕ) → count ≡ onesIn after → (low : ℕ)
+      → low ≡ lowestIn after → (Is (record { count = count; lowest = low }) ≡ toldBy p words) × (after ≡ leftBy p words)
   unfolding toldBy leftBy tooShort
   long-enough l after e count c low d =
       (rw (le-ltb (length words) mapWords l, ← e, c, d), rw (le-ltb (length words) mapWords l) e)

@@ -108,7 +108,11 @@ module _ (p : ℕ → Bool) (n : ℕ) (few : n ≤ mapWords * wordBits) (past : 
         subst (λ y. p y ≡ false) parts
         (none-in (x / wordBits) (omega arith) (h (x / wordBits) (omega arith)) (x % wordBits) (omega arith))
 
-    found-in : (i j : ℕ) → i < mapWords → ((k : ℕ) → k < i → someIn (wordsBy p row) k ≡ false) → j < wordBits → p (i * wordBits + j) ≡ true → ((k : ℕ) → k < j → p (i * wordBits + k) ≡ false) → lowestAt (wordsBy p row) (At i) ≡ foundOr noNode (firstTo p n)
+    found-in :
+        (i j : ℕ)
+        → i < mapWords → ((k : ℕ) → k < i → someIn (wordsBy p row) k ≡ false) → j < wordBits
+        → p (i * wordBits + j) ≡ true → ((k : ℕ) → k < j → p (i * wordBits + k) ≡ false)
+        → lowestAt (wordsBy p row) (At i) ≡ foundOr noNode (firstTo p n)
     unfolding lowestAt wordBy foundOr
     found-in i j l none m e low =
         ap (λ w. i * wordBits + trailingZeros wordBits w) (word-is i l)
@@ -147,7 +151,11 @@ module _ (p : ℕ → Bool) (n : ℕ) (few : n ≤ mapWords * wordBits) (past : 
     unfolding lowestIn
     lowest-is = go (first-is (someIn (wordsBy p row)) mapWords)
       where
-        within : (i : ℕ) → i < mapWords → someIn (wordsBy p row) i ≡ true → ((k : ℕ) → k < i → someIn (wordsBy p row) k ≡ false) → {f : Found} → Lowest (λ j. p (i * wordBits + j)) wordBits f → lowestAt (wordsBy p row) (At i) ≡ foundOr noNode (firstTo p n)
+        within :
+            (i : ℕ)
+            → i < mapWords → someIn (wordsBy p row) i ≡ true → ((k : ℕ) → k < i → someIn (wordsBy p row) k ≡ false)
+            → {f : Found} → Lowest (λ j. p (i * wordBits + j)) wordBits f
+            → lowestAt (wordsBy p row) (At i) ≡ foundOr noNode (firstTo p n)
         within i l e none (nowhere h) = clash e (none-word i l h)
         within i l e none (here {e = j} m q low) = found-in i j l none m q low
 

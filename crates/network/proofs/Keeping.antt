@@ -36,7 +36,18 @@ module _ (row : List ℕ) (e : ℕ) where
         let none : e * linkWidth ≡ e * linkWidth + 0 = omega arith in
         ap (λ (j : ℕ). getD row j 0) none ∙ number 0 (omega arith)
 
-    pub link-there : _≡_ {A = Link} (record { first = getD row (e * linkWidth) 0; second = getD row (e * linkWidth + 1) 0; length = getD row (e * linkWidth + 2) 0; mark = getD row (e * linkWidth + 3) 0 }) (linkIn row e)
+    pub link-there :
+        _≡_ {A = Link}
+        (record {
+          first =
+              getD row (e * linkWidth) 0;
+          second =
+              getD row (e * linkWidth + 1) 0;
+          length =
+              getD row (e * linkWidth + 2) 0;
+          mark = getD row (e * linkWidth + 3) 0;
+        })
+        (linkIn row e)
     unfolding linkIn linkFrom
     link-there =
         λ i.
@@ -110,7 +121,11 @@ module _ (f : ℕ → Link) where
   rows-first m more = put.rows-first linkWidth (λ e. linkRow (f e)) m (λ e l. sized e) more
 
   -- the next record, behind those that are put already
-  pub put-next : (k : ℕ) (before : List ℕ) → k < linksIn before → (l : Link) → l ≡ f k → putLink (rowsTo (λ e. linkRow (f e)) k ++ pastLinks k before) k l ≡ rowsTo (λ e. linkRow (f e)) (k + 1) ++ pastLinks (k + 1) before
+  pub put-next :
+      (k : ℕ) (before : List ℕ)
+      → k < linksIn before → (l : Link) → l ≡ f k
+      → putLink (rowsTo (λ e. linkRow (f e)) k ++ pastLinks k before) k l
+      ≡ rowsTo (λ e. linkRow (f e)) (k + 1) ++ pastLinks (k + 1) before
   unfolding putLink pastLinks
   put-next k before h l q =
       ap (λ (l : Link). withRecord linkWidth (rowsTo (λ e. linkRow (f e)) k ++ pastRecords linkWidth k before) k (linkRow l)) q

@@ -54,7 +54,10 @@ same-network a b h = same-links a b (h .count) (λ e l. links-agree e l)
         ∙ (ap (λ (r : List ℕ). linkIn r e) (h .numbers) ∙ link-front b (linksIn b) e (omega (arith, l, h .count)) (omega arith))
 
 -- every answer that is a function of the network is the same for both
-pub same-answer : {A : Type 0} (a b : List ℕ) → Agree a b → (f : Net → A) (parents : List ℕ) (search : Search) → f (netOf a parents search) ≡ f (netOf b parents search)
+pub same-answer :
+    {A : Type 0} (a b : List ℕ)
+    → Agree a b → (f : Net → A) (parents : List ℕ) (search : Search)
+    → f (netOf a parents search) ≡ f (netOf b parents search)
 same-answer a b h f parents search = ap f (same-network a b h parents search)
 
 -- no number of a link passes the largest 16-bit number

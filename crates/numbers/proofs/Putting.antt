@@ -77,12 +77,17 @@ pub put-first : (before : List ℕ) (i k v : ℕ) (after : List ℕ) → after �
 put-first before i k v after q = record { is = q; size = bytes-length k v }
 
 -- and more behind them
-pub put-more : (before : List ℕ) (i n : ℕ) (xs mid : List ℕ) (j m : ℕ) (ys after : List ℕ) → Put before i n xs mid → Put mid j m ys after → j ≡ i + n → Put before i (n + m) (xs ++ ys) after
+pub put-more :
+    (before : List ℕ) (i n : ℕ) (xs mid : List ℕ) (j m : ℕ) (ys after : List ℕ)
+    → Put before i n xs mid → Put mid j m ys after → j ≡ i + n → Put before i (n + m) (xs ++ ys) after
 put-more before i n xs mid j m ys after p q e =
     record {
       is = q .is ∙ (ap (λ (r : List ℕ). sets r j ys) (p .is) ∙ sets-behind xs ys before i j (omega (arith, e, p .size)));
       size = omega (arith, length-append xs ys, p .size, q .size);
     }
 
-pub put-next : (before : List ℕ) (i n : ℕ) (xs mid : List ℕ) (j k v : ℕ) (after : List ℕ) → Put before i n xs mid → after ≡ sets mid j (bytesOf k v) → j ≡ i + n → Put before i (n + k) (xs ++ bytesOf k v) after
+pub put-next :
+    (before : List ℕ) (i n : ℕ) (xs mid : List ℕ) (j k v : ℕ) (after : List ℕ)
+    → Put before i n xs mid → after ≡ sets mid j (bytesOf k v) → j ≡ i + n
+    → Put before i (n + k) (xs ++ bytesOf k v) after
 put-next before i n xs mid j k v after p q e = put-more before i n xs mid j k (bytesOf k v) after p (put-first mid j k v after q) e

@@ -34,7 +34,10 @@ module _ (size at n place : ℕ) (p : place ≡ placeFor size at n) where
 
 module _ (out text : List ℕ) (at place : ℕ) (p : place ≡ placeFor (length out) at (length text)) where
   -- the text is copied behind what waited before its place
-  pub put-held : length text ≤ length out - place → (after : List ℕ) → after ≡ paste out place text (length text) → Holds after (place + length text) (waits out at text)
+  pub put-held :
+      length text ≤ length out - place
+      → (after : List ℕ) → after ≡ paste out place text (length text)
+      → Holds after (place + length text) (waits out at text)
   unfolding waits
   put-held l after q =
       let low = place-low (length out) at (length text) place p in

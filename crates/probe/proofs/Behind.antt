@@ -11,7 +11,10 @@ use Rattle.test_words.proofs.Reading.{words-length}
 use Rattle.probe.specs.Input.{rowRead}
 
 -- the words were read to the first k numbers
-pub front-read : (raw row : List ℕ) (n k : ℕ) → k ≡ n → n ≤ length row → (front : List ℕ) → front ≡ wordsIn raw (length (take k (drop 0 row))) → front ++ drop k (drop 0 row) ≡ rowRead true raw n row
+pub front-read :
+    (raw row : List ℕ) (n k : ℕ)
+    → k ≡ n → n ≤ length row → (front : List ℕ) → front ≡ wordsIn raw (length (take k (drop 0 row)))
+    → front ++ drop k (drop 0 row) ≡ rowRead true raw n row
 unfolding rowRead
 front-read raw row n k e l front q =
     let size : length (take k row) ≡ n = length-take-le k row (omega (arith, e, l)) ∙ e in

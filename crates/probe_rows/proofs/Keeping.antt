@@ -31,7 +31,11 @@ module _ (mark : ℕ) (row : List ℕ) (from : ℕ) where
 
     pub keep-changed : i < length row → (getD row i 0 ≡ mark → ⊥) → false ≡ isKept mark row from
     unfolding isKept
-    keep-changed l n = sym (ap not (one-some (λ i. leb from i && not (eqb (getD row i 0) mark)) (length row) i l (rw (le-leb from i (s .low), ne-eqb (getD row i 0) mark n))))
+    keep-changed l n =
+        sym
+        (ap not
+        (one-some (λ i. leb from i && not (eqb (getD row i 0) mark)) (length row) i l
+        (rw (le-leb from i (s .low), ne-eqb (getD row i 0) mark n))))
 
     pub keep-all : length row ≤ i → true ≡ isKept mark row from
     unfolding isKept

@@ -40,15 +40,26 @@ fits room at size l = go (leb at (room - size)) refl
     go false e = e ∙ sym (lt-leb (at + size) room (omega (arith, l, leb-false at (room - size) e)))
 
 -- the entry's three parts
-pub entry-joined : (parent : ℕ) (e : Entry) (at : ℕ) (before one two after : List ℕ) → one ≡ sets before at (bytesOf 2 parent ++ bytesOf 1 (e .state) ++ bytesOf 1 0) → two ≡ sets one (at + 4) (bytesOf 2 (e .sum .link) ++ bytesOf 2 (e .incr .link) ++ bytesOf 2 (e .max .link) ++ bytesOf 2 0) → after ≡ sets two (at + 12) (bytesOf 8 (e .sum .cost) ++ bytesOf 4 (e .incr .cost) ++ bytesOf 4 (e .max .cost)) → after ≡ sets before at (entryRecord parent e)
+pub entry-joined :
+    (parent : ℕ) (e : Entry) (at : ℕ) (before one two after : List ℕ)
+    → one ≡ sets before at (bytesOf 2 parent ++ bytesOf 1 (e .state) ++ bytesOf 1 0)
+    → two
+    ≡ sets one (at + 4)
+    (bytesOf 2 (e .sum .link) ++ bytesOf 2 (e .incr .link) ++ bytesOf 2 (e .max .link) ++ bytesOf 2 0)
+    → after ≡ sets two (at + 12) (bytesOf 8 (e .sum .cost) ++ bytesOf 4 (e .incr .cost) ++ bytesOf 4 (e .max .cost))
+    → after ≡ sets before at (entryRecord parent e)
 unfolding entryRecord
 entry-joined parent e at before one two after p q r =
     let front = bytesOf 2 parent ++ bytesOf 1 (e .state) ++ bytesOf 1 0 in
     let links = bytesOf 2 (e .sum .link) ++ bytesOf 2 (e .incr .link) ++ bytesOf 2 (e .max .link) ++ bytesOf 2 0 in
     let costs = bytesOf 8 (e .sum .cost) ++ bytesOf 4 (e .incr .cost) ++ bytesOf 4 (e .max .cost) in
     let head : Put before at 4 front one = record { is = p; size = simp (length-append, bytes-length) } in
-    let body : Put before at 12 (front ++ links) two = put-more before at 4 front one (at + 4) 8 links two head (record { is = q; size = simp (length-append, bytes-length) }) refl in
-    let whole : Put before at entryBytes (front ++ links ++ costs) after = put-more before at 12 (front ++ links) two (at + 12) 16 costs after body (record { is = r; size = simp (length-append, bytes-length) }) refl in
+    let body : Put before at 12 (front ++ links) two =
+    put-more before at 4 front one (at + 4) 8 links two head
+    (record { is = q; size = simp (length-append, bytes-length) }) refl in
+    let whole : Put before at entryBytes (front ++ links ++ costs) after =
+    put-more before at 12 (front ++ links) two (at + 12) 16 costs after body
+    (record { is = r; size = simp (length-append, bytes-length) }) refl in
     simp append-assoc (simp append-assoc at (whole .is))
 
 -- how many bytes a record takes

@@ -123,13 +123,21 @@ module _ (may : ℕ → Bool) (before : ℕ → ℕ → Bool) where
 
 -- the search goes by what may stand below k, and by which of those comes before which
 module _ (may may′ : ℕ → Bool) (before before′ : ℕ → ℕ → Bool) where
-  beats-cong : (k : ℕ) (m : Bool) → may k ≡ m → {f : Found} → Stands may before k f → ((b : ℕ) → b < k → may b ≡ true → may k ≡ true → before k b ≡ before′ k b) → (may k && beats before k f) ≡ (may k && beats before′ k f)
+  beats-cong :
+      (k : ℕ) (m : Bool)
+      → may k ≡ m → {f : Found} → Stands may before k f
+      → ((b : ℕ) → b < k → may b ≡ true → may k ≡ true → before k b ≡ before′ k b)
+      → (may k && beats before k f) ≡ (may k && beats before′ k f)
   unfolding beats
   beats-cong k true e nobody h = refl
   beats-cong k true e (somebody {b} l m) h = rw (h b l m e)
   beats-cong k false e s h = rw e
 
-  pub best-cong : (k : ℕ) → ((j : ℕ) → j < k → may j ≡ may′ j) → ((i j : ℕ) → i < k → j < i → may i ≡ true → may j ≡ true → before i j ≡ before′ i j) → bestTo may before k ≡ bestTo may′ before′ k
+  pub best-cong :
+      (k : ℕ)
+      → ((j : ℕ) → j < k → may j ≡ may′ j)
+      → ((i j : ℕ) → i < k → j < i → may i ≡ true → may j ≡ true → before i j ≡ before′ i j)
+      → bestTo may before k ≡ bestTo may′ before′ k
   unfolding bestTo
   best-cong zero m o = refl
   best-cong (suc k) m o =

@@ -81,7 +81,9 @@ unfolding maxTo
 max-attained f zero h = absurd (not-suc-le-zero h)
 max-attained f (suc k) h = go (max-attained f k) (leb (f k) (maxTo f k)) refl
   where
-    go : (0 < maxTo f k → (j : ℕ) × (j < k) × (f j ≡ maxTo f k)) → (b : Bool) → leb (f k) (maxTo f k) ≡ b → (j : ℕ) × (j < suc k) × (f j ≡ max (maxTo f k) (f k))
+    go :
+        (0 < maxTo f k → (j : ℕ) × (j < k) × (f j ≡ maxTo f k))
+        → (b : Bool) → leb (f k) (maxTo f k) ≡ b → (j : ℕ) × (j < suc k) × (f j ≡ max (maxTo f k) (f k))
     go ih true e =
         let less = leb-true (f k) (maxTo f k) e in
         let z = ih (omega arith) in

@@ -208,7 +208,10 @@ pub rows-exact : (w : ℕ) (f : ℕ → List ℕ) (n : ℕ) → ((x : ℕ) → x
 rows-exact w f n sized pos = ap (λ (k : ℕ). k / w) (rows-length-in f w n sized) ∙ mul-div-cancel n pos
 
 -- the next record, behind those that are laid already
-pub put-next : (w : ℕ) (f : ℕ → List ℕ) (k : ℕ) → ((x : ℕ) → length (f x) ≡ w) → (before : List ℕ) → k < recordsIn w before → withRecord w (rowsTo f k ++ pastRecords w k before) k (f k) ≡ rowsTo f (k + 1) ++ pastRecords w (k + 1) before
+pub put-next :
+    (w : ℕ) (f : ℕ → List ℕ) (k : ℕ)
+    → ((x : ℕ) → length (f x) ≡ w) → (before : List ℕ) → k < recordsIn w before
+    → withRecord w (rowsTo f k ++ pastRecords w k before) k (f k) ≡ rowsTo f (k + 1) ++ pastRecords w (k + 1) before
 unfolding pastRecords rowsTo
 put-next w f k sized before h =
     put-is w (laid ++ old) k (f k) (rw long h)
@@ -260,7 +263,10 @@ sets-swap (x ∷ a) b l i j h =
     ∙ ap (λ (r : List ℕ). sets r (suc i) a) (sym (set-sets b l i j x true (lt-ltb i j (omega arith)) (λ z. absurd (true≢false z))))
 
 -- two records may be put in either order
-pub put-swap : (w : ℕ) (row : List ℕ) (j k : ℕ) (a b : List ℕ) → (j ≡ k → ⊥) → length a ≡ w → length b ≡ w → withRecord w (withRecord w row j a) k b ≡ withRecord w (withRecord w row k b) j a
+pub put-swap :
+    (w : ℕ) (row : List ℕ) (j k : ℕ) (a b : List ℕ)
+    → (j ≡ k → ⊥) → length a ≡ w → length b ≡ w
+    → withRecord w (withRecord w row j a) k b ≡ withRecord w (withRecord w row k b) j a
 put-swap w row j k a b n p q = go (ltb j (recordsIn w row)) refl (ltb k (recordsIn w row)) refl
   where
     stores : (s : Bool) → ltb j k ≡ s → sets (sets row (j * w) a) (k * w) b ≡ sets (sets row (k * w) b) (j * w) a
@@ -269,7 +275,10 @@ put-swap w row j k a b n p q = go (ltb j (recordsIn w row)) refl (ltb k (records
         let far : k < j = omega (arith, ltb-false j k e, n) in
         sym (sets-swap b a row (k * w) (j * w) (omega (arith, before w k j far, q)))
 
-    go : (s : Bool) → ltb j (recordsIn w row) ≡ s → (t : Bool) → ltb k (recordsIn w row) ≡ t → withRecord w (withRecord w row j a) k b ≡ withRecord w (withRecord w row k b) j a
+    go :
+        (s : Bool)
+        → ltb j (recordsIn w row) ≡ s → (t : Bool) → ltb k (recordsIn w row) ≡ t
+        → withRecord w (withRecord w row j a) k b ≡ withRecord w (withRecord w row k b) j a
     go true e true f =
         let here = ltb-true j (recordsIn w row) e in
         let there = ltb-true k (recordsIn w row) f in

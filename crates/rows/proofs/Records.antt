@@ -32,7 +32,9 @@ module _ (f : ℕ → List ℕ) (size : ℕ) where
   rows-at-in (suc k) sized r x l =
       rw (append-assoc (rowsTo f k) (f k) r) (go (rows-at-in k (λ x l. sized x (omega arith)) (f k ++ r) x) (eqb x k) refl)
     where
-      go : (x < k → take size (drop (x * size) (rowsTo f k ++ (f k ++ r))) ≡ f x) → (b : Bool) → eqb x k ≡ b → take size (drop (x * size) (rowsTo f k ++ (f k ++ r))) ≡ f x
+      go :
+          (x < k → take size (drop (x * size) (rowsTo f k ++ (f k ++ r))) ≡ f x)
+          → (b : Bool) → eqb x k ≡ b → take size (drop (x * size) (rowsTo f k ++ (f k ++ r))) ≡ f x
       go ih true e =
           rw (eqb-true x k e, drop-at (rowsTo f k) (f k ++ r) (k * size) (rows-length-in k (λ x l. sized x (omega arith))))
           (take-at (f k) r size (sized k (omega arith)))

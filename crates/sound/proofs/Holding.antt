@@ -41,7 +41,11 @@ module _ (g : Net) (s : Sound g) where
   pub depth-few : eqb (g .search .depth) wholeSearch ≡ false → g .search .depth ≤ depthLimit
   depth-few e = whole-or-few (g .search .depth) (s .sized .depth-ok) false e refl
 
-  ends-say : (e : ℕ) → e < g .links → (leb (g .nodes) (g .link e .first) ≡ false) × (leb (g .nodes) (g .link e .second) ≡ false) × (eqb (g .link e .first) (g .link e .second) ≡ false)
+  ends-say :
+      (e : ℕ)
+      → e < g .links
+      → (leb (g .nodes) (g .link e .first) ≡ false)
+      × (leb (g .nodes) (g .link e .second) ≡ false) × (eqb (g .link e .first) (g .link e .second) ≡ false)
   unfolding badEnds
   ends-say e l =
       or3-false (leb (g .nodes) (g .link e .first)) (leb (g .nodes) (g .link e .second)) (eqb (g .link e .first) (g .link e .second))
@@ -89,7 +93,11 @@ module _ (g : Net) (s : Sound g) where
       go false q = rw q (other (g .parent u) (parent-in u l q) (eqb (g .link (g .parent u) .first) u) refl)
 
   -- exactly one end of a link is in T(x) where the tree link of x lies on the tree path between the ends, and nowhere else
-  pub link-path : (e x : ℕ) → e < g .links → onPath (treeOf g) (g .link e .first) (g .link e .second) x ≡ differ (under (treeOf g) x (g .link e .first)) (under (treeOf g) x (g .link e .second))
+  pub link-path :
+      (e x : ℕ)
+      → e < g .links
+      → onPath (treeOf g) (g .link e .first) (g .link e .second) x
+      ≡ differ (under (treeOf g) x (g .link e .first)) (under (treeOf g) x (g .link e .second))
   link-path e x l = on-path (treeOf g) _ _ x (home _ (first-in e l)) (home _ (second-in e l))
 
   -- a link in service keeps the two inequalities

@@ -18,7 +18,7 @@ use Rattle.rows.proofs.Tests.{or3-false}
 use Rattle.rows.proofs.Best.{first-cong}
 use Rattle.rows.proofs.Filling.{filled-at}
 use Rattle.rows.proofs.Refusing.{at-taken}
-use Rattle.network.specs.Network.{linksIn, linkIn, netOf}
+use Rattle.network.specs.Network.{Net, linksIn, linkIn, netOf}
 use Rattle.network.specs.Records.{badNodes, badEnds}
 use Rattle.tree.specs.Tree.{treeOf, dist}
 use Rattle.tree.specs.Answers.{distanceRow}
@@ -44,13 +44,25 @@ short-less p q w l = go (leb (p - q) w) refl
     go false e = rw (e, lt-leb p (q + w) (omega (arith, leb-false (p - q) w e)))
 
 module _ (links parents : List ℕ) (search : Search) where
-  ends-say : (e : ℕ) → badEnds (length parents) (linkIn links e) ≡ false → (leb (length parents) (linkIn links e .first) ≡ false) × (leb (length parents) (linkIn links e .second) ≡ false) × (eqb (linkIn links e .first) (linkIn links e .second) ≡ false)
+  abbrev g : Net
+  g = netOf links parents search
+
+  ends-say :
+      (e : ℕ)
+      → badEnds (length parents) (linkIn links e) ≡ false
+      → (leb (length parents) (linkIn links e .first) ≡ false)
+      × (leb (length parents) (linkIn links e .second) ≡ false)
+      × (eqb (linkIn links e .first) (linkIn links e .second) ≡ false)
   unfolding badEnds
   ends-say e h =
-      or3-false (leb (length parents) (linkIn links e .first)) (leb (length parents) (linkIn links e .second)) (eqb (linkIn links e .first) (linkIn links e .second)) h
+      or3-false (leb (length parents) (linkIn links e .first)) (leb (length parents) (linkIn links e .second))
+      (eqb (linkIn links e .first) (linkIn links e .second)) h
 
   -- refusal 5 taken
-  pub ends-known : (v : Verdict) → v ≡ refuseAt (λ e. badEnds (length parents) (linkIn links e)) (linksIn links) BadEnds → v ≡ Taken → EndsIn links (length parents)
+  pub ends-known :
+      (v : Verdict)
+      → v ≡ refuseAt (λ e. badEnds (length parents) (linkIn links e)) (linksIn links) BadEnds → v ≡ Taken
+      → EndsIn links (length parents)
   ends-known v q p =
       let ok = at-taken (λ e. badEnds (length parents) (linkIn links e)) (linksIn links) BadEnds (sym q ∙ p) in
       record {
@@ -59,19 +71,31 @@ module _ (links parents : List ℕ) (search : Search) where
       }
 
   -- the row of distances, of a network within the limit
-  pub filled-row : (row after : List ℕ) → badNodes memoryLimits (length parents) ≡ false → length row ≡ nodeLimit → after ≡ distanceRow (netOf links parents search) row → after ≡ rowWith (dist (treeOf (netOf links parents search))) (length parents) row
+  pub filled-row :
+      (row after : List ℕ)
+      → badNodes memoryLimits (length parents) ≡ false → length row ≡ nodeLimit
+      → after ≡ distanceRow g row
+      → after ≡ rowWith (dist (treeOf g)) (length parents) row
   unfolding distanceRow netOf
   filled-row row after small room q =
       let t = room-passes (length parents) (length row) small (omega (arith, few-nodes (length parents) small)) in
       q ∙ rw t
 
-  breaks-is : EndsIn links (length parents) → (row : List ℕ) → (e : ℕ) → e < linksIn links → breaksBy (rowWith (dist (treeOf (netOf links parents search))) (length parents) row) (linkIn links e) ≡ notShort (netOf links parents search) e
+  breaks-is :
+      EndsIn links (length parents)
+      → (row : List ℕ) → (e : ℕ) → e < linksIn links
+      → breaksBy (rowWith (dist (treeOf g)) (length parents) row) (linkIn links e)
+      ≡ notShort g e
   unfolding breaksBy notShort short netOf
   breaks-is n row e l =
       rw (
-        filled-at (dist (treeOf (netOf links parents search))) (length parents) row (linkIn links e .first) (n .first-in e l),
-        filled-at (dist (treeOf (netOf links parents search))) (length parents) row (linkIn links e .second) (n .second-in e l),
+        filled-at (dist (treeOf g)) (length parents) row (linkIn links e .first) (n .first-in e l),
+        filled-at (dist (treeOf g)) (length parents) row (linkIn links e .second) (n .second-in e l),
       )
 
-  pub first-breaking-is : EndsIn links (length parents) → (row after : List ℕ) → after ≡ rowWith (dist (treeOf (netOf links parents search))) (length parents) row → firstTo (λ e. breaksBy after (linkIn links e)) (linksIn links) ≡ firstTo (notShort (netOf links parents search)) (linksIn links)
+  pub first-breaking-is :
+      EndsIn links (length parents)
+      → (row after : List ℕ) → after ≡ rowWith (dist (treeOf g)) (length parents) row
+      → firstTo (λ e. breaksBy after (linkIn links e)) (linksIn links)
+      ≡ firstTo (notShort g) (linksIn links)
   first-breaking-is n row after q = rw q (first-cong _ _ (linksIn links) (breaks-is n row))

@@ -58,7 +58,9 @@ sizes-say g t1 =
     }
 
 -- of numbers: 1 is among what is taken
-pub sizes-nodes : (most : Limits) (n m : ℕ) (search : Search) (v : Verdict) → most ≡ memoryLimits → v ≡ sizeVerdict most n m search → v ≡ Taken → badNodes memoryLimits n ≡ false
+pub sizes-nodes :
+    (most : Limits) (n m : ℕ) (search : Search) (v : Verdict)
+    → most ≡ memoryLimits → v ≡ sizeVerdict most n m search → v ≡ Taken → badNodes memoryLimits n ≡ false
 unfolding sizeVerdict
 sizes-nodes most n m search v e q p = subst (λ (k : Limits). badNodes k n ≡ false) e (if-taken _ NodeCount 0 (head-taken _ _ (sym q ∙ p)))
 

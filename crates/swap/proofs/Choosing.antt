@@ -33,7 +33,10 @@ compare-offers : (a b : Offer) → Compared a b (better a b)
 unfolding better
 compare-offers a b = go (ltb (a .cost) (b .cost)) refl (eqb (a .cost) (b .cost)) refl (ltb (a .link) (b .link)) refl
   where
-    go : (p : Bool) → ltb (a .cost) (b .cost) ≡ p → (q : Bool) → eqb (a .cost) (b .cost) ≡ q → (r : Bool) → ltb (a .link) (b .link) ≡ r → Compared a b (better a b)
+    go :
+        (p : Bool)
+        → ltb (a .cost) (b .cost) ≡ p → (q : Bool) → eqb (a .cost) (b .cost) ≡ q → (r : Bool)
+        → ltb (a .link) (b .link) ≡ r → Compared a b (better a b)
     go true h q k r m = rw h (less (ltb-true (a .cost) (b .cost) h))
     go false h true k true m = rw (h, k, m) (lower (eqb-true (a .cost) (b .cost) k) (ltb-true (a .link) (b .link) m))
     go false h true k false m = rw (h, k, m) (not-lower (eqb-true (a .cost) (b .cost) k) (ltb-false (a .link) (b .link) m))

@@ -46,7 +46,10 @@ module _ (g : Net) (s : Sound g) (x : ℕ) (far : eqb x (g .search .root) ≡ fa
         hops-few (treeOf g) (up-in g s) x z (home g s z lz) (crossing-splits (treeOf g) x (g .link e) e c .0) (eqb-false x (g .search .root) far) lz,
       )
 
-  both-within : (e : ℕ) → e < g .links → (b : Bool) → crosses (treeOf g) x e (g .link e) ≡ b → candidate (atDepth g depthLimit) x e ≡ candidate (atDepth g wholeSearch) x e
+  both-within :
+      (e : ℕ)
+      → e < g .links → (b : Bool) → crosses (treeOf g) x e (g .link e) ≡ b
+      → candidate (atDepth g depthLimit) x e ≡ candidate (atDepth g wholeSearch) x e
   unfolding candidate within atDepth treeOf
   both-within e l true c = rw (c, le-leb (hops (treeOf g) x (lower (treeOf g) x (g .link e))) depthLimit (near e l c))
   both-within e l false c = rw c

@@ -24,7 +24,9 @@ module _ (t : Tree) where
   -- one number at every node of T(x)
   count-times : (x c : ℕ) → sumTo (inside t x (λ u. c)) (t .size) ≡ count t x * c
   unfolding count
-  count-times x c = sum-cong (inside t x (λ u. c)) (λ u. inside t x (λ u. 1) u * c) (t .size) (λ u l. each u (under t x u) refl) ∙ sum-times (inside t x (λ u. 1)) c (t .size)
+  count-times x c =
+      sum-cong (inside t x (λ u. c)) (λ u. inside t x (λ u. 1) u * c) (t .size) (λ u l. each u (under t x u) refl)
+      ∙ sum-times (inside t x (λ u. 1)) c (t .size)
     where
       each : (u : ℕ) (b : Bool) → under t x u ≡ b → inside t x (λ u. c) u ≡ inside t x (λ u. 1) u * c
       each u true e = rw (inside-in t x (λ u. c) u e, inside-in t x (λ u. 1) u e) (sym (one-mul c))
@@ -43,7 +45,10 @@ module _ (t : Tree) where
 
     met-start : (z : ℕ) → met z z ≡ count t z * dist t z
     unfolding met
-    met-start z = sum-cong (inside t z (λ u. dist t (meet t u z))) (inside t z (λ u. dist t z)) (t .size) (λ u l. each u (all u l) (under t z u) refl) ∙ count-times z (dist t z)
+    met-start z =
+        sum-cong (inside t z (λ u. dist t (meet t u z))) (inside t z (λ u. dist t z)) (t .size)
+        (λ u l. each u (all u l) (under t z u) refl)
+        ∙ count-times z (dist t z)
       where
         each : (u : ℕ) → Home t u → (b : Bool) → under t z u ≡ b → inside t z (λ u. dist t (meet t u z)) u ≡ inside t z (λ u. dist t z) u
         each u h true e = rw (inside-in t z (λ u. dist t (meet t u z)) u e, inside-in t z (λ u. dist t z) u e) (ap (dist t) (meet-below u z h e))
@@ -92,7 +97,8 @@ module _ (t : Tree) where
       unfolding met
       met-step =
           rw (← count-times x (dist t (t .up x)), ← count-times (t .up x) (dist t (t .up x)))
-          (sum-balance (inside t (t .up x) (λ u. dist t (meet t u z))) (inside t x (λ u. dist t (t .up x))) (inside t x (λ u. dist t (meet t u z))) (inside t (t .up x) (λ u. dist t (t .up x))) (t .size)
+          (sum-balance (inside t (t .up x) (λ u. dist t (meet t u z))) (inside t x (λ u. dist t (t .up x)))
+          (inside t x (λ u. dist t (meet t u z))) (inside t (t .up x) (λ u. dist t (t .up x))) (t .size)
           (λ u l. each u (all u l) (under t x u) refl (under t (t .up x) u) refl))
         where
           f : ℕ → ℕ
@@ -101,7 +107,10 @@ module _ (t : Tree) where
           c : ℕ → ℕ
           c = λ u. dist t (t .up x)
 
-          each : (u : ℕ) → Home t u → (a : Bool) → under t x u ≡ a → (b : Bool) → under t (t .up x) u ≡ b → inside t (t .up x) f u + inside t x c u ≡ inside t x f u + inside t (t .up x) c u
+          each :
+              (u : ℕ)
+              → Home t u → (a : Bool) → under t x u ≡ a → (b : Bool) → under t (t .up x) u ≡ b
+              → inside t (t .up x) f u + inside t x c u ≡ inside t x f u + inside t (t .up x) c u
           each u h true e true g = rw (inside-in t (t .up x) f u g, inside-in t x c u e, inside-in t x f u e, inside-in t (t .up x) c u g)
           each u h true e false g = clash (under-trans t x (t .up x) u h e px) g
           each u h false e true g =
@@ -154,7 +163,13 @@ module _ (t : Tree) where
 
       met-twice : sumTo (inside t x twice-met) (t .size) ≡ met x (lower t x l) + met x (lower t x l)
       unfolding met twice-met
-      met-twice = sum-cong (inside t x twice-met) (λ u. inside t x (λ u. dist t (meet t u (lower t x l))) u + inside t x (λ u. dist t (meet t u (lower t x l))) u) (t .size) (λ u k. each u (under t x u) refl) ∙ sum-add (inside t x (λ u. dist t (meet t u (lower t x l)))) (inside t x (λ u. dist t (meet t u (lower t x l)))) (t .size)
+      met-twice =
+          sum-cong (inside t x twice-met)
+          (λ u. inside t x (λ u. dist t (meet t u (lower t x l))) u + inside t x
+          (λ u. dist t (meet t u (lower t x l))) u)
+          (t .size) (λ u k. each u (under t x u) refl)
+          ∙ sum-add (inside t x (λ u. dist t (meet t u (lower t x l))))
+          (inside t x (λ u. dist t (meet t u (lower t x l)))) (t .size)
         where
           f : ℕ → ℕ
           f = λ u. dist t (meet t u (lower t x l))
@@ -170,7 +185,11 @@ module _ (t : Tree) where
           (sum-balance (inside t x (newDist t x l)) (inside t x twice-met) (inside t x (dist t)) (inside t x (λ u. through t l)) (t .size)
           (λ u k. each u (all u k) (under t x u) refl))
         where
-          each : (u : ℕ) → Home t u → (b : Bool) → under t x u ≡ b → inside t x (newDist t x l) u + inside t x twice-met u ≡ inside t x (dist t) u + inside t x (λ u. through t l) u
+          each :
+              (u : ℕ)
+              → Home t u → (b : Bool) → under t x u ≡ b
+              → inside t x (newDist t x l) u + inside t x twice-met u
+              ≡ inside t x (dist t) u + inside t x (λ u. through t l) u
           each u h true e =
               rw (inside-in t x (newDist t x l) u e, inside-in t x twice-met u e, inside-in t x (dist t) u e, inside-in t x (λ u. through t l) u e)
               (one-met u h)

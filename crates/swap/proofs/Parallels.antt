@@ -22,7 +22,8 @@ module _ (t : Tree) (x : ℕ) (home : Home t x) where
   own-within depth =
       or-right (eqb depth wholeSearch) (leb (hops t x x) depth) (le-leb (hops t x x) depth (omega (arith, hops-cut t x x home (under-self t x home))))
 
-  module _ (far : eqb x (t .root) ≡ false) (e : ℕ) (l : Link) (up : inService l ≡ true) (other : eqb e (t .link x) ≡ false) (one : l .first ≡ x) (two : l .second ≡ t .up x) where
+  module _ (far : eqb x (t .root) ≡ false) (e : ℕ) (l : Link) (up : inService l ≡ true)
+      (other : eqb e (t .link x) ≡ false) (one : l .first ≡ x) (two : l .second ≡ t .up x) where
     pub parallel-crosses : crosses t x e l ≡ true
     unfolding crosses
     parallel-crosses = rw (up, other, one, two, under-self t x home, below-not t x home far)

@@ -127,7 +127,10 @@ module _ (g : Net) (x : ℕ) where
     deeper c n k = rw (best-same Sum n, best-same Incr n, best-same Max n, had-one l, deeper-state c n)
 
     -- a candidate
-    swap-kept : (s : Measure) → candidate g x l ≡ true → (o : Offer) → o .link ≡ l → o .cost ≡ costOf s g x l → priced s g x (bestOf s (suc l)) ≡ kept (savedOf l) (priced s g x (bestOf s l)) o
+    swap-kept :
+        (s : Measure)
+        → candidate g x l ≡ true → (o : Offer) → o .link ≡ l → o .cost ≡ costOf s g x l
+        → priced s g x (bestOf s (suc l)) ≡ kept (savedOf l) (priced s g x (bestOf s l)) o
     unfolding bestOf bestTo savedOf beats priced kept before offer
     swap-kept s c o p q =
         rw (c, some-found (candidate g x) (before s g x) l) (one (bestTo (candidate g x) (before s g x) l))
@@ -152,7 +155,10 @@ module _ (g : Net) (x : ℕ) where
         one Nothing = is-new
         one (At b) = two b (before s g x l b) refl
 
-    nearer : candidate g x l ≡ true → (c : Costs) → c .sum ≡ costOf Sum g x l → c .incr ≡ costOf Incr g x l → c .max ≡ costOf Max g x l → entryOf (suc l) ≡ offered (entryOf l) true l c
+    nearer :
+        candidate g x l ≡ true
+        → (c : Costs) → c .sum ≡ costOf Sum g x l → c .incr ≡ costOf Incr g x l → c .max ≡ costOf Max g x l
+        → entryOf (suc l) ≡ offered (entryOf l) true l c
     unfolding offered entryOf
     nearer n c p q r =
         rw (
@@ -168,7 +174,11 @@ module _ (g : Net) (x : ℕ) where
     pub entry-unmoved : crosses (treeOf g) x l (g .link l) ≡ false → entry (firstLinks g (suc l)) x ≡ entry (firstLinks g l) x
     entry-unmoved c = entry-of (suc l) r ∙ unmoved l c ∙ sym (entry-of l r)
 
-    pub entry-offered : crosses (treeOf g) x l (g .link l) ≡ true → (near : Bool) → near ≡ within (treeOf g) (g .search .depth) x (lower (treeOf g) x (g .link l)) → (c : Costs) → c .sum ≡ costOf Sum g x l → c .incr ≡ costOf Incr g x l → c .max ≡ costOf Max g x l → entry (firstLinks g (suc l)) x ≡ offered (entry (firstLinks g l) x) near l c
+    pub entry-offered :
+        crosses (treeOf g) x l (g .link l) ≡ true
+        → (near : Bool) → near ≡ within (treeOf g) (g .search .depth) x (lower (treeOf g) x (g .link l)) → (c : Costs)
+        → c .sum ≡ costOf Sum g x l → c .incr ≡ costOf Incr g x l → c .max ≡ costOf Max g x l
+        → entry (firstLinks g (suc l)) x ≡ offered (entry (firstLinks g l) x) near l c
     unfolding candidate
     entry-offered c true q k p i m = rw (entry-of (suc l) r, entry-of l r) (nearer l (rw (c, ← q)) k p i m)
     entry-offered c false q k p i m = rw (entry-of (suc l) r, entry-of l r) (deeper l c (rw (c, ← q)) k)

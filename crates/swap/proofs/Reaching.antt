@@ -35,8 +35,14 @@ module _ (t : Tree) (all : (u : ℕ) → u < t .size → Home t u) where
   unfolding reach deepest
   reach-start z l =
       le-antisymm
-      (omega (arith, inside-bound t z (λ u. apart t u z) (maxTo (inside t z (dist t)) (t .size) - dist t z) (λ u k e. omega (arith, one u (all u k) e, inside-reach t z (dist t) u k e)), inside-reach t z (dist t) z l (under-self t z (all z l))))
-      (inside-bound t z (dist t) (maxTo (inside t z (λ u. apart t u z)) (t .size) + dist t z) (λ u k e. omega (arith, one u (all u k) e, inside-reach t z (λ u. apart t u z) u k e)))
+      (omega (
+        arith,
+        inside-bound t z (λ u. apart t u z) (maxTo (inside t z (dist t)) (t .size) - dist t z)
+            (λ u k e. omega (arith, one u (all u k) e, inside-reach t z (dist t) u k e)),
+        inside-reach t z (dist t) z l (under-self t z (all z l)),
+      ))
+      (inside-bound t z (dist t) (maxTo (inside t z (λ u. apart t u z)) (t .size) + dist t z)
+      (λ u k e. omega (arith, one u (all u k) e, inside-reach t z (λ u. apart t u z) u k e)))
     where
       one : (u : ℕ) → Home t u → under t z u ≡ true → apart t u z + dist t z ≡ dist t u
       one u h e =
@@ -75,10 +81,15 @@ module _ (t : Tree) (all : (u : ℕ) → u < t .size → Home t u) where
     unfolding aside beside
     beside-bound b h =
         max-bound (λ u. onlyIf (beside t x u) (dist t u)) (t .size) b
-        (λ u l. only-small (beside t x u) (dist t u) b (λ q. h u l (and-left (under t (t .up x) u) (not (under t x u)) q) (not-true (under t x u) (and-right (under t (t .up x) u) (not (under t x u)) q))))
+        (λ u l. only-small (beside t x u) (dist t u) b
+        (λ q. h u l (and-left (under t (t .up x) u) (not (under t x u)) q)
+        (not-true (under t x u) (and-right (under t (t .up x) u) (not (under t x u)) q))))
 
     -- t(u,z) of a node beside x
-    apart-beside : (u : ℕ) → Home t u → under t (t .up x) u ≡ true → under t x u ≡ false → apart t u z + dist t (t .up x) + dist t (t .up x) ≡ dist t u + dist t z
+    apart-beside :
+        (u : ℕ)
+        → Home t u → under t (t .up x) u ≡ true → under t x u ≡ false
+        → apart t u z + dist t (t .up x) + dist t (t .up x) ≡ dist t u + dist t z
     apart-beside u h e f = omega (arith, apart-dist t u z h hz, ap (dist t) (meet-aside t all x z hz pz nx u h e f))
 
     p-under : under t (t .up x) z ≡ true
@@ -95,11 +106,17 @@ module _ (t : Tree) (all : (u : ℕ) → u < t .size → Home t u) where
         f : ℕ → ℕ
         f = λ u. apart t u z
 
-        each : (u : ℕ) → u < t .size → under t (t .up x) u ≡ true → (b : Bool) → under t x u ≡ b → apart t u z ≤ max (maxTo (inside t x f) (t .size)) ((dist t z - dist t (t .up x)) + (aside t x - dist t (t .up x)))
+        each :
+            (u : ℕ)
+            → u < t .size → under t (t .up x) u ≡ true → (b : Bool) → under t x u ≡ b
+            → apart t u z ≤ max (maxTo (inside t x f) (t .size))
+            ((dist t z - dist t (t .up x)) + (aside t x - dist t (t .up x)))
         each u l e true g = omega (arith, inside-reach t x f u l g)
         each u l e false g = omega (arith, apart-beside u (all u l) e g, beside-reach u l e g, near)
 
-        upper-half : maxTo (inside t (t .up x) f) (t .size) ≤ max (maxTo (inside t x f) (t .size)) ((dist t z - dist t (t .up x)) + (aside t x - dist t (t .up x)))
+        upper-half :
+            maxTo (inside t (t .up x) f) (t .size) ≤ max (maxTo (inside t x f) (t .size))
+            ((dist t z - dist t (t .up x)) + (aside t x - dist t (t .up x)))
         upper-half = inside-bound t (t .up x) f _ (λ u l e. each u l e (under t x u) refl)
 
         one : maxTo (inside t x f) (t .size) ≤ maxTo (inside t (t .up x) f) (t .size)
@@ -107,9 +124,19 @@ module _ (t : Tree) (all : (u : ℕ) → u < t .size → Home t u) where
 
         -- what is beside x reaches as far
         two : aside t x + dist t z ≤ maxTo (inside t (t .up x) f) (t .size) + dist t (t .up x) + dist t (t .up x)
-        two = omega (arith, beside-bound (maxTo (inside t (t .up x) f) (t .size) + dist t (t .up x) + dist t (t .up x) - dist t z) (λ u l e g. omega (arith, apart-beside u (all u l) e g, inside-reach t (t .up x) f u l e)), aside-more, apart-beside (t .up x) hp (under-self t (t .up x) hp) x-not, inside-reach t (t .up x) f (t .up x) lp (under-self t (t .up x) hp))
+        two =
+            omega (
+              arith,
+              beside-bound (maxTo (inside t (t .up x) f) (t .size) + dist t (t .up x) + dist t (t .up x) - dist t z)
+                  (λ u l e g. omega (arith, apart-beside u (all u l) e g, inside-reach t (t .up x) f u l e)),
+              aside-more,
+              apart-beside (t .up x) hp (under-self t (t .up x) hp) x-not,
+              inside-reach t (t .up x) f (t .up x) lp (under-self t (t .up x) hp),
+            )
 
-        lower-half : max (maxTo (inside t x f) (t .size)) ((dist t z - dist t (t .up x)) + (aside t x - dist t (t .up x))) ≤ maxTo (inside t (t .up x) f) (t .size)
+        lower-half :
+            max (maxTo (inside t x f) (t .size)) ((dist t z - dist t (t .up x)) + (aside t x - dist t (t .up x))) ≤
+            maxTo (inside t (t .up x) f) (t .size)
         lower-half = omega (arith, one, two, near, aside-more)
 
   -- max and incr of a link that crosses x
@@ -119,7 +146,13 @@ module _ (t : Tree) (all : (u : ℕ) → u < t .size → Home t u) where
     max-is =
         le-antisymm
         (inside-bound t x (newDist t x l) _ (λ u k e. omega (arith, one u, inside-reach t x f u k e)))
-        (omega (arith, inside-bound t x f (maxTo (inside t x (newDist t x l)) (t .size) - (l .length + dist t (upper t x l))) (λ u k e. omega (arith, one u, inside-reach t x (newDist t x l) u k e)), one x, inside-reach t x (newDist t x l) x lx (under-self t x (all x lx))))
+        (omega (
+          arith,
+          inside-bound t x f (maxTo (inside t x (newDist t x l)) (t .size) - (l .length + dist t (upper t x l)))
+              (λ u k e. omega (arith, one u, inside-reach t x (newDist t x l) u k e)),
+          one x,
+          inside-reach t x (newDist t x l) x lx (under-self t x (all x lx)),
+        ))
       where
         f : ℕ → ℕ
         f = λ u. apart t u (lower t x l)

@@ -97,7 +97,9 @@ module _ (g : Net) (x : ℕ) where
       go (far p c) z = (crossed-one c, saved-none p)
       go (bridge c) z = absurd (omega arith)
 
-  pub crossed-none-within : eqb x (g .search .root) ≡ false → (e : ℕ) → Crossing g x e → ((e : ℕ) → e < g .links → candidate g x e ≡ false) → state g x ≡ noneState
+  pub crossed-none-within :
+      eqb x (g .search .root) ≡ false
+      → (e : ℕ) → Crossing g x e → ((e : ℕ) → e < g .links → candidate g x e ≡ false) → state g x ≡ noneState
   crossed-none-within r e c h = go (stated r)
     where
       go : {n : ℕ} → Stated n → n ≡ noneState

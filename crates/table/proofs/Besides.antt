@@ -31,25 +31,38 @@ module _ (t : Tree) (all : (u : ℕ) → u < t .size → Home t u) (closed : (u 
       either (eqb y x) (has x (route t (t .up y))) (rw (route-step t y h e) at p) (λ q. absurd (n (eqb-true y x q))) (λ q r. r)
 
   -- siblings have nothing in common
-  siblings : (u x y : ℕ) → Home t u → x < t .size → y < t .size → eqb x (t .root) ≡ false → eqb y (t .root) ≡ false → t .up y ≡ t .up x → (y ≡ x → ⊥) → under t y u ≡ true → under t x u ≡ false
+  siblings :
+      (u x y : ℕ)
+      → Home t u → x < t .size → y < t .size → eqb x (t .root) ≡ false → eqb y (t .root) ≡ false → t .up y ≡ t .up x
+      → (y ≡ x → ⊥) → under t y u ≡ true → under t x u ≡ false
   siblings u x y h lx ly rx ry q n e =
       not-so (under t x u)
       (λ p. go p (under t x y) refl)
     where
       go : under t x u ≡ true → (b : Bool) → under t x y ≡ b → ⊥
       go p true f = clash (by-parent x y (all y ly) ry f n) (subst (λ (v : ℕ). under t x v ≡ false) (sym q) (below-not t x (all x lx) rx))
-      go p false f = clash (by-parent y x (all x lx) rx (in-line u x y h p e f) (λ z. n (sym z))) (subst (λ (v : ℕ). under t y v ≡ false) q (below-not t y (all y ly) ry))
+      go p false f =
+          clash (by-parent y x (all x lx) rx (in-line u x y h p e f) (λ z. n (sym z)))
+          (subst (λ (v : ℕ). under t y v ≡ false) q (below-not t y (all y ly) ry))
 
   -- a node below p that is not p is below a child of p
-  child-way : (u p : ℕ) → Home t u → {v : ℕ} {r : List ℕ} → Way t v r → v < t .size → under t v u ≡ true → has p r ≡ true → (v ≡ p → ⊥) → (y : ℕ) × (y < t .size) × (child t p y ≡ true) × (under t y u ≡ true)
+  child-way :
+      (u p : ℕ)
+      → Home t u → {v : ℕ} {r : List ℕ} → Way t v r → v < t .size → under t v u ≡ true → has p r ≡ true → (v ≡ p → ⊥)
+      → (y : ℕ) × (y < t .size) × (child t p y ≡ true) × (under t y u ≡ true)
   unfolding has child
   child-way u p h (top {u = v} e) l o m n = either (eqb v p) false m (λ q. absurd (n (eqb-true v p q))) (λ q c. clash c refl)
   child-way u p h (hop {u = v} {r} e w) l o m n =
       either (eqb v p) (has p r) m
       (λ q. absurd (n (eqb-true v p q)))
-      (λ q c. go (child-way u p h w (closed v l) (under-trans t v (t .up v) u h o (up-above t v (all v l) v (under-self t v (all v l)) e)) c) (eqb (t .up v) p) refl)
+      (λ q c. go
+      (child-way u p h w (closed v l)
+      (under-trans t v (t .up v) u h o (up-above t v (all v l) v (under-self t v (all v l)) e)) c)
+      (eqb (t .up v) p) refl)
     where
-      go : ((t .up v ≡ p → ⊥) → (y : ℕ) × (y < t .size) × (child t p y ≡ true) × (under t y u ≡ true)) → (b : Bool) → eqb (t .up v) p ≡ b → (y : ℕ) × (y < t .size) × (child t p y ≡ true) × (under t y u ≡ true)
+      go :
+          ((t .up v ≡ p → ⊥) → (y : ℕ) × (y < t .size) × (child t p y ≡ true) × (under t y u ≡ true))
+          → (b : Bool) → eqb (t .up v) p ≡ b → (y : ℕ) × (y < t .size) × (child t p y ≡ true) × (under t y u ≡ true)
       go ih true q = (v, l, rw (e, q), o)
       go ih false q = ih (eqb-false (t .up v) p q)
 

@@ -57,7 +57,11 @@ module _ (g : Net) (s : Sound g) (e k : ℕ) (p : Spare g e k) where
       touching : e ≡ g .parent x → (eqb (g .link e .first) x || eqb (g .link e .second) x) ≡ true
       touching q = subst (λ (j : ℕ). touches (g .link j) x ≡ true) (sym q) (parent-touches g s x l r)
 
-  spare-crosses : (x : ℕ) → x < g .nodes → eqb x (g .search .root) ≡ false → crosses (treeOf g) x e (g .link e) ≡ differ (under (treeOf g) x (g .link e .first)) (under (treeOf g) x (g .link e .second))
+  spare-crosses :
+      (x : ℕ)
+      → x < g .nodes → eqb x (g .search .root) ≡ false
+      → crosses (treeOf g) x e (g .link e)
+      ≡ differ (under (treeOf g) x (g .link e .first)) (under (treeOf g) x (g .link e .second))
   unfolding crosses treeOf
   spare-crosses x l r = rw (p .serves, not-own x l r)
 
@@ -115,7 +119,13 @@ pub record Between (g : Net) (n : ℕ) (marks : List ℕ) (e k : ℕ) (row₀ : 
   one : Apart (treeOf g) a b
   two : Apart (treeOf g) b a
   pub size : length row ≡ length row₀
-  rows : (before : List ℕ) → Entries n (want g marks before e) before row₀ → Entries n (λ v. cond (behind (treeOf g) a v || behind (treeOf g) b v) (want g marks before (suc e) v) (want g marks before e v)) before row
+  rows :
+      (before : List ℕ)
+      → Entries n (want g marks before e) before row₀
+      → Entries n
+      (λ v. cond (behind (treeOf g) a v || behind (treeOf g) b v) (want g marks before (suc e) v)
+      (want g marks before e v))
+      before row
 
 -- how many nodes the two have on their routes, the root with each
 abbrev pub left : Tree → Side → Side → ℕ
@@ -214,7 +224,10 @@ module _ {g : Net} {n : ℕ} {marks : List ℕ} {e k : ℕ} {row₀ : List ℕ} 
           rw (end-differs (treeOf g) (i .ends) v ∙ sym (on-path (treeOf g) _ _ v (from-home i) (from-home (between-turn i))) ∙ sym (path-is v) ∙ c)
           (and-none (inService (g .link e) && not (eqb e (treeOf g .link v))))
 
-      all-done : (before : List ℕ) (v : ℕ) (t : Bool) → (behind (treeOf g) a v || behind (treeOf g) b v) ≡ t → cond t (want g marks before (suc e) v) (want g marks before e v) ≡ want g marks before (suc e) v
+      all-done :
+          (before : List ℕ) (v : ℕ) (t : Bool)
+          → (behind (treeOf g) a v || behind (treeOf g) b v) ≡ t
+          → cond t (want g marks before (suc e) v) (want g marks before e v) ≡ want g marks before (suc e) v
       all-done before v true c = refl
       all-done before v false c = sym (want-kept g marks before e v (not-crossed v c))
 
@@ -226,7 +239,8 @@ module _ {g : Net} {n : ℕ} {marks : List ℕ} {e k : ℕ} {row₀ : List ℕ} 
       counted = omega (arith, node-low i, r .counts .room)
 
       -- the one with fewer nodes below it is next
-      module _ {x y : ℕ} (xe : x ≡ getD counts (b .climb .node) 0) (ye : y ≡ getD counts (a .climb .node) 0) {p q : ℕ} (pe : p ≡ a .climb .node) (qe : q ≡ b .climb .node) (f : p ≡ q → ⊥) where
+      module _ {x y : ℕ} (xe : x ≡ getD counts (b .climb .node) 0) (ye : y ≡ getD counts (a .climb .node) 0) {p q : ℕ}
+          (pe : p ≡ a .climb .node) (qe : q ≡ b .climb .node) (f : p ≡ q → ⊥) where
         pub first-next : y ≤ x → Turn g n marks e k row₀ a b row (left (treeOf g) a b)
         first-next l =
             record {
@@ -310,6 +324,9 @@ module _ {g : Net} {n : ℕ} {marks : List ℕ} {e k : ℕ} {row₀ : List ℕ} 
                 (o .goes-on before _ (i .rows before h) (rw (upTo-out (a .climb .node) (route (treeOf g) (a .from)), not-behind)));
           }
 
-pub not-top : (links parents : List ℕ) (search : Search) {n : ℕ} {marks : List ℕ} {e k : ℕ} {row₀ : List ℕ} {a b : Side} {row : List ℕ} {m : ℕ} → Turn (netOf links parents search) n marks e k row₀ a b row m → a .climb .node ≡ search .root → ⊥
+pub not-top :
+    (links parents : List ℕ) (search : Search) {n : ℕ} {marks : List ℕ} {e k : ℕ} {row₀ : List ℕ} {a b : Side}
+    {row : List ℕ} {m : ℕ}
+    → Turn (netOf links parents search) n marks e k row₀ a b row m → a .climb .node ≡ search .root → ⊥
 unfolding treeOf netOf
 not-top links parents search turn = below-root turn

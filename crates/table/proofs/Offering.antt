@@ -53,42 +53,72 @@ offered-none g n marks e x m q z row =
       goes-on = λ before f h w. entries-same n f _ before row (λ y l. same before f w y (eqb x y) refl) h;
     }
   where
-    same : (before : List ℕ) (f : ℕ → List ℕ) → f x ≡ want g marks before e x → (y : ℕ) (b : Bool) → eqb x y ≡ b → f y ≡ cond b (want g marks before (suc e) y) (f y)
+    same :
+        (before : List ℕ) (f : ℕ → List ℕ)
+        → f x ≡ want g marks before e x → (y : ℕ) (b : Bool) → eqb x y ≡ b
+        → f y ≡ cond b (want g marks before (suc e) y) (f y)
     same before f w y true p =
         subst (λ (v : ℕ). f v ≡ want g marks before (suc e) v) (eqb-true x y p)
         (w ∙ want-unmarked g marks before e (suc e) x (not-marked marks x m q z))
     same before f w y false p = refl
 
 -- a node that is marked
-module _ (links parents : List ℕ) (search : Search) (marks : List ℕ) (s : Side) (i : Carries (treeIn links parents search) (s .from) s) (x-low : s .climb .node < length parents) (e k : ℕ) (c : Crossing (netOf links parents search) e s k) (n : s .climb .node ≡ search .root → ⊥) where
+module _ (links parents : List ℕ) (search : Search) (marks : List ℕ) (s : Side)
+    (i : Carries (treeIn links parents search) (s .from) s) (x-low : s .climb .node < length parents) (e k : ℕ)
+    (c : Crossing (netOf links parents search) e s k) (n : s .climb .node ≡ search .root → ⊥) where
   off : eqb (s .climb .node) (netOf links parents search .search .root) ≡ false
   unfolding netOf
   off = ne-eqb (s .climb .node) (search .root) n
 
-  near-is : (b : Bool) → b ≡ withinBy (search .depth) (s .climb .hops) → b ≡ within (treeIn links parents search) (netOf links parents search .search .depth) (s .climb .node) (lower (treeIn links parents search) (s .climb .node) (netOf links parents search .link e))
+  near-is :
+      (b : Bool)
+      → b ≡ withinBy (search .depth) (s .climb .hops)
+      → b
+      ≡ within (treeIn links parents search) (netOf links parents search .search .depth) (s .climb .node)
+      (lower (treeIn links parents search) (s .climb .node) (netOf links parents search .link e))
   unfolding withinBy within netOf
-  near-is b q = q ∙ ap (λ (h : ℕ). eqb (search .depth) wholeSearch || leb h (search .depth)) (i .along .hops-is ∙ ap (hops (treeIn links parents search) (s .climb .node)) (sym (c .low)))
+  near-is b q =
+      q
+      ∙ ap (λ (h : ℕ). eqb (search .depth) wholeSearch || leb h (search .depth))
+      (i .along .hops-is ∙ ap (hops (treeIn links parents search) (s .climb .node)) (sym (c .low)))
 
   -- the new entry
-  grown : (old new : Entry) (b : Bool) (v : Costs) → old ≡ entry (firstLinks (netOf links parents search) e) (s .climb .node) → b ≡ withinBy (search .depth) (s .climb .hops) → Priced (netOf links parents search) (s .climb .node) e v → new ≡ offered old b e v → new ≡ entry (firstLinks (netOf links parents search) (suc e)) (s .climb .node)
+  grown :
+      (old new : Entry) (b : Bool) (v : Costs)
+      → old ≡ entry (firstLinks (netOf links parents search) e) (s .climb .node)
+      → b ≡ withinBy (search .depth) (s .climb .hops) → Priced (netOf links parents search) (s .climb .node) e v
+      → new ≡ offered old b e v → new ≡ entry (firstLinks (netOf links parents search) (suc e)) (s .climb .node)
   grown old new b v p q r w =
       w ∙ ap (λ (o : Entry). offered o b e v) p ∙
       sym (entry-offered (netOf links parents search) (s .climb .node) off e (c .cross) b (near-is b q) v (r .sum-is) (r .incr-is) (r .max-is))
 
-  pub offered-one : (m : ℕ) → m ≡ getD marks (s .climb .node) 0 → (m ≡ 0 → ⊥) → (row row′ : List ℕ) → length parents ≤ entriesIn row → (old new : Entry) (b : Bool) (v : Costs) → old ≡ entryAt row (s .climb .node) → b ≡ withinBy (search .depth) (s .climb .hops) → Priced (netOf links parents search) (s .climb .node) e v → new ≡ offered old b e v → row′ ≡ putEntry row (s .climb .node) new → OfferedAt (netOf links parents search) (length parents) marks e (s .climb .node) row row′
+  pub offered-one :
+      (m : ℕ)
+      → m ≡ getD marks (s .climb .node) 0 → (m ≡ 0 → ⊥) → (row row′ : List ℕ) → length parents ≤ entriesIn row
+      → (old new : Entry) (b : Bool) (v : Costs) → old ≡ entryAt row (s .climb .node)
+      → b ≡ withinBy (search .depth) (s .climb .hops) → Priced (netOf links parents search) (s .climb .node) e v
+      → new ≡ offered old b e v → row′ ≡ putEntry row (s .climb .node) new
+      → OfferedAt (netOf links parents search) (length parents) marks e (s .climb .node) row row′
   offered-one m q z row row′ room old new b v p bq r w u =
       record {
         goes-on =
             λ before f h g.
             let on = is-marked marks (s .climb .node) m q z in
-            let was = entry-known _ f before row (s .climb .node) (entry (firstLinks (netOf links parents search) e) (s .climb .node)) h x-low (g ∙ want-marked (netOf links parents search) marks before e (s .climb .node) on) in
+            let was =
+            entry-known _ f before row (s .climb .node)
+            (entry (firstLinks (netOf links parents search) e) (s .climb .node)) h x-low
+            (g ∙ want-marked (netOf links parents search) marks before e (s .climb .node) on) in
             let new-is = grown old new b v (p ∙ was) bq r w in
             rw u
             (entries-same _ _ _ before _ (λ y l. told before f new-is on y (eqb (s .climb .node) y) refl)
             (entries-put _ f before row (s .climb .node) new h x-low (omega (arith, h .size))));
       }
     where
-      told : (before : List ℕ) (f : ℕ → List ℕ) → new ≡ entry (firstLinks (netOf links parents search) (suc e)) (s .climb .node) → marked marks (s .climb .node) ≡ true → (y : ℕ) (t : Bool) → eqb (s .climb .node) y ≡ t → cond t (entryRow new) (f y) ≡ cond t (want (netOf links parents search) marks before (suc e) y) (f y)
+      told :
+          (before : List ℕ) (f : ℕ → List ℕ)
+          → new ≡ entry (firstLinks (netOf links parents search) (suc e)) (s .climb .node)
+          → marked marks (s .climb .node) ≡ true → (y : ℕ) (t : Bool) → eqb (s .climb .node) y ≡ t
+          → cond t (entryRow new) (f y) ≡ cond t (want (netOf links parents search) marks before (suc e) y) (f y)
       told before f a on y true d =
           subst (λ (j : ℕ). entryRow new ≡ want (netOf links parents search) marks before (suc e) j) (eqb-true (s .climb .node) y d)
           (ap entryRow a ∙ sym (want-marked (netOf links parents search) marks before (suc e) (s .climb .node) on))

@@ -41,7 +41,11 @@ pub record Passing (t : Tree) (back : Bool) (n : ℕ) (most₀ out₀ : List ℕ
   pub most-size : length most ≡ length most₀
   pub out-size : length out ≡ length out₀
   pub most-is : (q : ℕ) → q < n → getD most q 0 ≡ max (getD most₀ q 0) (maxTo (kid t back n q) j)
-  pub done : (x : ℕ) → x < n → eqb x (t .root) ≡ false → placed back n x < j → getD out x 0 ≡ max (getD out₀ x 0) (max (getD most₀ (t .up x) 0) (maxTo (kid t back n (t .up x)) (placed back n x)))
+  pub done :
+      (x : ℕ)
+      → x < n → eqb x (t .root) ≡ false → placed back n x < j
+      → getD out x 0
+      ≡ max (getD out₀ x 0) (max (getD most₀ (t .up x) 0) (maxTo (kid t back n (t .up x)) (placed back n x)))
   pub left : (x : ℕ) → x < n → j ≤ placed back n x → getD out x 0 ≡ getD out₀ x 0
 
 module _ (t : Tree) (back : Bool) (n : ℕ) (most₀ out₀ : List ℕ) where
@@ -61,7 +65,9 @@ module _ (t : Tree) (back : Bool) (n : ℕ) (most₀ out₀ : List ℕ) where
   passing-end j most out p l =
       record { size = p .out-size; each = λ x m r. p .done x m r (omega (arith, placed-in back n x m)) }
 
-  module _ (closed : (u : ℕ) → u < n → t .up u < n) (j : ℕ) (most out most′ out′ : List ℕ) (p : Passing t back n most₀ out₀ j most out) (l : j < n) (c : ℕ) (q : c ≡ placed back n j) (s : Raised t n c most out most′ out′) where
+  module _ (closed : (u : ℕ) → u < n → t .up u < n) (j : ℕ) (most out most′ out′ : List ℕ)
+      (p : Passing t back n most₀ out₀ j most out) (l : j < n) (c : ℕ) (q : c ≡ placed back n j)
+      (s : Raised t n c most out most′ out′) where
     c-in : c < n
     c-in = rw q (placed-in back n j l)
 
@@ -72,12 +78,18 @@ module _ (t : Tree) (back : Bool) (n : ℕ) (most₀ out₀ : List ℕ) where
     unfolding maxTo kid
     most-next y m = omega (arith, s .most-is y m, p .most-is y m, ap (λ (v : ℕ). onlyIf (child t y v) (deepest t v)) q)
 
-    done-next : (x : ℕ) → x < n → eqb x (t .root) ≡ false → (b : Bool) → eqb x c ≡ b → placed back n x < suc j → getD out′ x 0 ≡ max (getD out₀ x 0) (max (getD most₀ (t .up x) 0) (maxTo (kid t back n (t .up x)) (placed back n x)))
+    done-next :
+        (x : ℕ)
+        → x < n → eqb x (t .root) ≡ false → (b : Bool) → eqb x c ≡ b → placed back n x < suc j
+        → getD out′ x 0
+        ≡ max (getD out₀ x 0) (max (getD most₀ (t .up x) 0) (maxTo (kid t back n (t .up x)) (placed back n x)))
     done-next x m r true e k =
         let same = eqb-true x c e in
         subst (λ (v : ℕ). getD out′ v 0 ≡ max (getD out₀ v 0) (max (getD most₀ (t .up v) 0) (maxTo (kid t back n (t .up v)) (placed back n v)))) (sym same)
         (s .out-is (subst (λ (v : ℕ). eqb v (t .root) ≡ false) same r) ∙
-        ap₂ max (p .left c c-in (omega (arith, c-place))) (p .most-is (t .up c) (closed c c-in) ∙ ap (λ (i : ℕ). max (getD most₀ (t .up c) 0) (maxTo (kid t back n (t .up c)) i)) (sym c-place)))
+        ap₂ max (p .left c c-in (omega (arith, c-place)))
+        (p .most-is (t .up c) (closed c c-in)
+        ∙ ap (λ (i : ℕ). max (getD most₀ (t .up c) 0) (maxTo (kid t back n (t .up c)) i)) (sym c-place)))
     done-next x m r false e k =
         s .out-other x (eqb-false x c e) ∙ p .done x m r (before x m e k)
       where
@@ -100,12 +112,17 @@ module _ (t : Tree) (back : Bool) (n : ℕ) (most₀ out₀ : List ℕ) where
         })
 
 -- the parent of a node is a node, in rows
-pub up-low : (links parents : List ℕ) (search : Search) → netVerdict (netOf links parents search) ≡ Taken → (u : ℕ) → u < length parents → treeIn links parents search .up u < length parents
+pub up-low :
+    (links parents : List ℕ) (search : Search)
+    → netVerdict (netOf links parents search) ≡ Taken → (u : ℕ) → u < length parents
+    → treeIn links parents search .up u < length parents
 unfolding treeOf netOf
 up-low links parents search ok u l = up-in (netOf links parents search) (sound (netOf links parents search) ok) u l
 
 -- one node of a pass, in rows
-module _ (links parents : List ℕ) (search : Search) (ok : netVerdict (netOf links parents search) ≡ Taken) (deep : List ℕ) (h : Holds (length parents) (deepest (treeIn links parents search)) deep) (most out : List ℕ) (rm : length parents ≤ length most) (ro : length parents ≤ length out) (c : ℕ) (lc : c < length parents) where
+module _ (links parents : List ℕ) (search : Search) (ok : netVerdict (netOf links parents search) ≡ Taken)
+    (deep : List ℕ) (h : Holds (length parents) (deepest (treeIn links parents search)) deep) (most out : List ℕ)
+    (rm : length parents ≤ length most) (ro : length parents ≤ length out) (c : ℕ) (lc : c < length parents) where
   pub raised-root : c ≡ search .root → Raised (treeIn links parents search) (length parents) c most out most out
   unfolding child onlyIf
   raised-root e =
@@ -129,7 +146,10 @@ module _ (links parents : List ℕ) (search : Search) (ok : netVerdict (netOf li
     unfolding child
     child-is y = rw (r, q)
 
-    pub raised-more : (a b d : ℕ) → d ≡ getD deep c 0 → a ≡ max (getD out c 0) (getD most p 0) → b ≡ max (getD most p 0) d → Raised (treeIn links parents search) (length parents) c most out (set most p b) (set out c a)
+    pub raised-more :
+        (a b d : ℕ)
+        → d ≡ getD deep c 0 → a ≡ max (getD out c 0) (getD most p 0) → b ≡ max (getD most p 0) d
+        → Raised (treeIn links parents search) (length parents) c most out (set most p b) (set out c a)
     unfolding onlyIf
     raised-more a b d e f k =
         record {

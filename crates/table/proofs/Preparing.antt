@@ -9,7 +9,7 @@ use Rattle.edition.specs.declared.Verdict.the-variants.{Taken}
 use Rattle.edition.specs.Limits.{nodeLimit}
 use Rattle.rows.specs.Count.{sumTo, maxTo, rowWith}
 use Rattle.rows.proofs.Filling.{fill-length, filled-at}
-use Rattle.network.specs.Network.{netOf, linksIn}
+use Rattle.network.specs.Network.{Net, netOf, linksIn}
 use Rattle.tree.specs.Tree.{dist}
 use Rattle.tree.specs.Answers.{distanceRow}
 use Rattle.tree.proofs.InRows.{treeIn, size-in}
@@ -41,46 +41,54 @@ holds-row f n old row q l =
       each = λ x m. ap (λ (r : List ℕ). getD r x 0) q ∙ filled-at f n old x m;
     }
 
-module _ (links parents : List ℕ) (search : Search) (ok : netVerdict (netOf links parents search) ≡ Taken) where
-  few : length parents ≤ nodeLimit
-  unfolding netOf
-  few = nodes-few (netOf links parents search) (sound (netOf links parents search) ok)
+module _ (links parents : List ℕ) (search : Search) where
+  abbrev g : Net
+  g = netOf links parents search
 
-  pub room-for : length parents ≤ length zeroRow
-  room-for = omega (arith, few, zero-length)
+  module _ (ok : netVerdict g ≡ Taken) where
+    few : length parents ≤ nodeLimit
+    unfolding netOf
+    few = nodes-few g (sound g ok)
 
-  pub zeros : Holds (length parents) (λ x. 0) zeroRow
-  zeros = record { room = room-for; each = λ x l. zero-at x (omega (arith, few, l)) }
+    pub room-for : length parents ≤ length zeroRow
+    room-for = omega (arith, few, zero-length)
 
-  pub none-counted : Counted (treeIn links parents search) 0 zeroRow zeroRow zeroRow
-  unfolding sumTo maxTo
-  none-counted =
-      let z = subst (λ (k : ℕ). Holds k (λ x. 0) zeroRow) (sym (size-in links parents search)) zeros in
-      record { counts = z; weights = z; deeps = z }
+    pub zeros : Holds (length parents) (λ x. 0) zeroRow
+    zeros = record { room = room-for; each = λ x l. zero-at x (omega (arith, few, l)) }
 
-  pub nears : (row : List ℕ) → row ≡ distanceRow (netOf links parents search) zeroRow → Holds (length parents) (dist (treeIn links parents search)) row
-  nears row q =
-      holds-row _ _ zeroRow row (first-row links parents search ok zeroRow row zero-length q) room-for
+    pub none-counted : Counted (treeIn links parents search) 0 zeroRow zeroRow zeroRow
+    unfolding sumTo maxTo
+    none-counted =
+        let z = subst (λ (k : ℕ). Holds k (λ x. 0) zeroRow) (sym (size-in links parents search)) zeros in
+        record { counts = z; weights = z; deeps = z }
 
-  module _ (c w d : List ℕ) (h : Counted (treeIn links parents search) (length parents) c w d) where
-    all : Counted (treeIn links parents search) (treeIn links parents search .size) c w d
-    all = subst (λ (k : ℕ). Counted (treeIn links parents search) k c w d) (sym (size-in links parents search)) h
+    pub nears : (row : List ℕ) → row ≡ distanceRow g zeroRow → Holds (length parents) (dist (treeIn links parents search)) row
+    nears row q =
+        holds-row _ _ zeroRow row (first-row links parents search ok zeroRow row zero-length q) room-for
 
-    pub counts-all : Holds (length parents) (count (treeIn links parents search)) c
-    unfolding count
-    counts-all = subst (λ (k : ℕ). Holds k (count (treeIn links parents search)) c) (size-in links parents search) (all .counts)
+    module _ (c w d : List ℕ) (h : Counted (treeIn links parents search) (length parents) c w d) where
+      all : Counted (treeIn links parents search) (treeIn links parents search .size) c w d
+      all = subst (λ (k : ℕ). Counted (treeIn links parents search) k c w d) (sym (size-in links parents search)) h
 
-    pub weights-all : Holds (length parents) (weight (treeIn links parents search)) w
-    unfolding weight
-    weights-all = subst (λ (k : ℕ). Holds k (weight (treeIn links parents search)) w) (size-in links parents search) (all .weights)
+      pub counts-all : Holds (length parents) (count (treeIn links parents search)) c
+      unfolding count
+      counts-all = subst (λ (k : ℕ). Holds k (count (treeIn links parents search)) c) (size-in links parents search) (all .counts)
 
-    pub deeps-all : Holds (length parents) (deepest (treeIn links parents search)) d
-    unfolding deepest
-    deeps-all = subst (λ (k : ℕ). Holds k (deepest (treeIn links parents search)) d) (size-in links parents search) (all .deeps)
+      pub weights-all : Holds (length parents) (weight (treeIn links parents search)) w
+      unfolding weight
+      weights-all = subst (λ (k : ℕ). Holds k (weight (treeIn links parents search)) w) (size-in links parents search) (all .weights)
 
-  -- a search from the cleared entries
-  pub fresh-end : (marks before row row′ : List ℕ) → Entries (length parents) (startAt (search .root) marks before) before row → LinkedTo (netOf links parents search) (length parents) marks (linksIn links) row row′ → Entries (length parents) (freshAt (netOf links parents search) marks before) before row′
-  unfolding netOf freshAt want
-  fresh-end marks before row row′ h l =
-      entries-same _ _ _ before row′ (λ x m. rw (entry-all (netOf links parents search) x))
-      (l .goes-on before (entries-same _ _ _ before row (λ x m. start-want (netOf links parents search) marks before x) h))
+      pub deeps-all : Holds (length parents) (deepest (treeIn links parents search)) d
+      unfolding deepest
+      deeps-all = subst (λ (k : ℕ). Holds k (deepest (treeIn links parents search)) d) (size-in links parents search) (all .deeps)
+
+    -- a search from the cleared entries
+    pub fresh-end :
+        (marks before row row′ : List ℕ)
+        → Entries (length parents) (startAt (search .root) marks before) before row
+        → LinkedTo g (length parents) marks (linksIn links) row row′
+        → Entries (length parents) (freshAt g marks before) before row′
+    unfolding netOf freshAt want
+    fresh-end marks before row row′ h l =
+        entries-same _ _ _ before row′ (λ x m. rw (entry-all g x))
+        (l .goes-on before (entries-same _ _ _ before row (λ x m. start-want g marks before x) h))

@@ -42,7 +42,9 @@ unmarked-stands : (root : ℕ) (marks before : List ℕ) (x : ℕ) → marked ma
 unfolding startAt
 unmarked-stands root marks before x e = rw e
 
-marked-starts : (root : ℕ) (marks before : List ℕ) (x : ℕ) → marked marks x ≡ true → startAt root marks before x ≡ entryRow (blank (cond (eqb x root) rootState bridgeState))
+marked-starts :
+    (root : ℕ) (marks before : List ℕ) (x : ℕ)
+    → marked marks x ≡ true → startAt root marks before x ≡ entryRow (blank (cond (eqb x root) rootState bridgeState))
 unfolding startAt
 marked-starts root marks before x e = rw e
 
@@ -50,7 +52,8 @@ module _ (root : ℕ) (marks before : List ℕ) (n : ℕ) where
   pub clear-start : Entries n (upToNode 0 (startAt root marks before) (standing before)) before before
   clear-start = entries-same n (standing before) _ before before (λ x l. rw (le-ltb x 0 (omega arith))) (entries-stand n before)
 
-  module _ (k : ℕ) (l : k < n) (room : n ≤ entriesIn before) (row : List ℕ) (h : Entries n (upToNode k (startAt root marks before) (standing before)) before row) where
+  module _ (k : ℕ) (l : k < n) (room : n ≤ entriesIn before) (row : List ℕ)
+      (h : Entries n (upToNode k (startAt root marks before) (standing before)) before row) where
     abbrev first : Entry
     first = blank (cond (eqb k root) rootState bridgeState)
 
@@ -58,24 +61,38 @@ module _ (root : ℕ) (marks before : List ℕ) (n : ℕ) where
     clear-none z =
         entries-same n _ _ before row (λ x j. kept x (eqb k x) refl ∙ node-more k (startAt root marks before) (standing before) x) h
       where
-        kept : (x : ℕ) (b : Bool) → eqb k x ≡ b → upToNode k (startAt root marks before) (standing before) x ≡ cond b (startAt root marks before k) (upToNode k (startAt root marks before) (standing before) x)
-        kept x true p = rw (le-ltb x k (omega (arith, eqb-true k x p))) (ap (standing before) (sym (eqb-true k x p)) ∙ sym (unmarked-stands root marks before k z))
+        kept :
+            (x : ℕ) (b : Bool)
+            → eqb k x ≡ b
+            → upToNode k (startAt root marks before) (standing before) x
+            ≡ cond b (startAt root marks before k) (upToNode k (startAt root marks before) (standing before) x)
+        kept x true p =
+            rw (le-ltb x k (omega (arith, eqb-true k x p)))
+            (ap (standing before) (sym (eqb-true k x p)) ∙ sym (unmarked-stands root marks before k z))
         kept x false p = refl
 
     clear-one : marked marks k ≡ true → Entries n (upToNode (suc k) (startAt root marks before) (standing before)) before (putEntry row k first)
     clear-one z =
         entries-same n _ _ before _
-        (λ x j. ap (λ (r : List ℕ). cond (eqb k x) r (upToNode k (startAt root marks before) (standing before) x)) (sym (marked-starts root marks before k z)) ∙ node-more k (startAt root marks before) (standing before) x)
+        (λ x j. ap (λ (r : List ℕ). cond (eqb k x) r (upToNode k (startAt root marks before) (standing before) x))
+        (sym (marked-starts root marks before k z))
+        ∙ node-more k (startAt root marks before) (standing before) x)
         (entries-put n _ before row k first h l room)
 
-    pub clear-more : (row′ : List ℕ) → row′ ≡ cond (marked marks k) (putEntry row k (blank (cond (eqb k root) rootState bridgeState))) row → Entries n (upToNode (k + 1) (startAt root marks before) (standing before)) before row′
+    pub clear-more :
+        (row′ : List ℕ)
+        → row′ ≡ cond (marked marks k) (putEntry row k (blank (cond (eqb k root) rootState bridgeState))) row
+        → Entries n (upToNode (k + 1) (startAt root marks before) (standing before)) before row′
     clear-more row′ u = subst (λ (j : ℕ). Entries n (upToNode j (startAt root marks before) (standing before)) before row′) (next k) (go (marked marks k) refl)
       where
         go : (b : Bool) → marked marks k ≡ b → Entries n (upToNode (suc k) (startAt root marks before) (standing before)) before row′
         go true z = rw (u, z) (clear-one z)
         go false z = rw (u, z) (clear-none z)
 
-  pub clear-end : (k : ℕ) → n ≤ k → (row : List ℕ) → Entries n (upToNode k (startAt root marks before) (standing before)) before row → Entries n (startAt root marks before) before row
+  pub clear-end :
+      (k : ℕ)
+      → n ≤ k → (row : List ℕ) → Entries n (upToNode k (startAt root marks before) (standing before)) before row
+      → Entries n (startAt root marks before) before row
   clear-end k l row h = entries-same n _ _ before row (λ x m. rw (lt-ltb x k (omega (arith, l, m)))) h
 
 -- before any link
@@ -91,7 +108,10 @@ start-want g marks before x = go (eqb x (g .search .root)) refl
 pub to-none : (g : Net) (n : ℕ) (marks row : List ℕ) → LinkedTo g n marks 0 row row
 to-none g n marks row = record { size = refl; goes-on = λ before h. h }
 
-pub to-more : (g : Net) (n : ℕ) (marks : List ℕ) (k : ℕ) (row row′ row″ : List ℕ) → LinkedTo g n marks k row row′ → length row″ ≡ length row′ → Linked g n marks k row′ row″ → LinkedTo g n marks (k + 1) row row″
+pub to-more :
+    (g : Net) (n : ℕ) (marks : List ℕ) (k : ℕ) (row row′ row″ : List ℕ)
+    → LinkedTo g n marks k row row′ → length row″ ≡ length row′ → Linked g n marks k row′ row″
+    → LinkedTo g n marks (k + 1) row row″
 to-more g n marks k row row′ row″ i z l =
     subst (λ (j : ℕ). LinkedTo g n marks j row row″) (next k)
     (record { size = z ∙ i .size; goes-on = λ before h. l .goes-on before (i .goes-on before h) })

@@ -28,7 +28,9 @@ use Rattle.table.proofs.Counts.{small, dist-few}
 use Rattle.table.proofs.BothSides.{all-in, closed-in}
 use Rattle.table.proofs.Passing.{up-low}
 
-module _ (links parents : List ℕ) (search : Search) (ok : netVerdict (netOf links parents search) ≡ Taken) (held : (i : ℕ) → getD links i 0 ≤ longest) (near : List ℕ) (h : Holds (length parents) (dist (treeIn links parents search)) near) where
+module _ (links parents : List ℕ) (search : Search) (ok : netVerdict (netOf links parents search) ≡ Taken)
+    (held : (i : ℕ) → getD links i 0 ≤ longest) (near : List ℕ)
+    (h : Holds (length parents) (dist (treeIn links parents search)) near) where
   low : (x : ℕ) → x < length parents → x < treeIn links parents search .size
   low x l = rw (size-in links parents search) l
 
@@ -37,7 +39,11 @@ module _ (links parents : List ℕ) (search : Search) (ok : netVerdict (netOf li
 
   aside-few : (x : ℕ) → aside (treeIn links parents search) x ≤ nodeLimit * longest
   unfolding aside
-  aside-few x = max-bound (λ u. onlyIf (beside (treeIn links parents search) x u) (dist (treeIn links parents search) u)) (treeIn links parents search .size) (nodeLimit * longest) (λ u l. only-small (beside (treeIn links parents search) x u) (dist (treeIn links parents search) u) (nodeLimit * longest) (λ e. dist-few links parents search ok held u))
+  aside-few x =
+      max-bound (λ u. onlyIf (beside (treeIn links parents search) x u) (dist (treeIn links parents search) u))
+      (treeIn links parents search .size) (nodeLimit * longest)
+      (λ u l. only-small (beside (treeIn links parents search) x u) (dist (treeIn links parents search) u)
+      (nodeLimit * longest) (λ e. dist-few links parents search ok held u))
 
   module _ (deep : List ℕ) (k : Holds (length parents) (deepest (treeIn links parents search)) deep) (z : ℕ) (l : z < length parents) where
     start : reach (treeIn links parents search) z z + dist (treeIn links parents search) z ≡ deepest (treeIn links parents search) z
@@ -46,7 +52,10 @@ module _ (links parents : List ℕ) (search : Search) (ok : netVerdict (netOf li
     pub begin-less : getD near z 0 ≤ getD deep z 0
     begin-less = omega (arith, h .each z l, k .each z l, start)
 
-    pub begin-carries : (c : Climb) (a b : ℕ) → c ≡ begun z → a ≡ getD deep z 0 → b ≡ getD near z 0 → Carries (treeIn links parents search) z (record { climb = c; from = z; reach = a - b }) × (c .node ≡ z)
+    pub begin-carries :
+        (c : Climb) (a b : ℕ)
+        → c ≡ begun z → a ≡ getD deep z 0 → b ≡ getD near z 0
+        → Carries (treeIn links parents search) z (record { climb = c; from = z; reach = a - b }) × (c .node ≡ z)
     unfolding begun
     begin-carries c a b q p r =
         let e : c .node ≡ z = ap (λ (x : Climb). x .node) q in (
@@ -58,7 +67,9 @@ module _ (links parents : List ℕ) (search : Search) (ok : netVerdict (netOf li
           e,
         )
 
-  module _ (asides : List ℕ) (k : Asides (treeIn links parents search) (length parents) asides) (s : Side) (i : Carries (treeIn links parents search) (s .from) s) (l : s .from < length parents) (n : s .climb .node ≡ search .root → ⊥) where
+  module _ (asides : List ℕ) (k : Asides (treeIn links parents search) (length parents) asides) (s : Side)
+      (i : Carries (treeIn links parents search) (s .from) s) (l : s .from < length parents)
+      (n : s .climb .node ≡ search .root → ⊥) where
     x : ℕ
     x = s .climb .node
 
@@ -69,7 +80,10 @@ module _ (links parents : List ℕ) (search : Search) (ok : netVerdict (netOf li
     on = i .along .on
 
     pub node-low : s .climb .node < length parents
-    node-low = subst (λ (m : ℕ). s .climb .node < m) (size-in links parents search) (under-below (treeIn links parents search) (closed-in links parents search ok) (s .from) (s .climb .node) (homes (s .from) l) (low (s .from) l) on)
+    node-low =
+        subst (λ (m : ℕ). s .climb .node < m) (size-in links parents search)
+        (under-below (treeIn links parents search) (closed-in links parents search ok) (s .from) (s .climb .node)
+        (homes (s .from) l) (low (s .from) l) on)
 
     up-there : treeIn links parents search .up (s .climb .node) < length parents
     up-there = up-low links parents search ok (s .climb .node) node-low
@@ -91,19 +105,38 @@ module _ (links parents : List ℕ) (search : Search) (ok : netVerdict (netOf li
           f-is = fq ∙ h .each (s .from) l
 
           pub down-less : d ≤ f
-          down-less = omega (arith, d-is, f-is, dist-up (treeIn links parents search) (s .from) (treeIn links parents search .up (s .climb .node)) (homes (s .from) l) (on-parent (treeIn links parents search) (s .from) (homes (s .from) l) (s .climb .node) on r))
+          down-less =
+              omega (
+                arith,
+                d-is,
+                f-is,
+                dist-up (treeIn links parents search) (s .from) (treeIn links parents search .up (s .climb .node))
+                    (homes (s .from) l)
+                    (on-parent (treeIn links parents search) (s .from) (homes (s .from) l) (s .climb .node) on r),
+              )
 
           module _ (a : ℕ) (aq : a ≡ getD asides (s .climb .node) 0) where
             a-is : a ≡ aside (treeIn links parents search) (s .climb .node)
             a-is = aq ∙ k .each (s .climb .node) node-low r
 
             pub over-less : d ≤ a
-            over-less = omega (arith, d-is, a-is, aside-more (treeIn links parents search) (all-in links parents search ok) (s .climb .node) (s .from) (low (s .from) l) on r (low _ up-there))
+            over-less =
+                omega (
+                  arith,
+                  d-is,
+                  a-is,
+                  aside-more (treeIn links parents search) (all-in links parents search ok) (s .climb .node)
+                      (s .from) (low (s .from) l) on r (low _ up-there),
+                )
 
             pub over-fits : (f - d) + (a - d) < 2 ^ 64
             over-fits = omega (arith, f-is, a-is, dist-few links parents search ok held (s .from), aside-few (s .climb .node))
 
-            pub step-carries : (v : ℕ) → v ≡ max (s .reach) ((f - d) + (a - d)) → Carries (treeIn links parents search) (s .from) (record { climb = c; from = s .from; reach = v }) × (c .node ≡ treeIn links parents search .up (s .climb .node)) × (s .from ≡ s .from)
+            pub step-carries :
+                (v : ℕ)
+                → v ≡ max (s .reach) ((f - d) + (a - d))
+                → Carries (treeIn links parents search) (s .from) (record { climb = c; from = s .from; reach = v })
+                × (c .node ≡ treeIn links parents search .up (s .climb .node)) × (s .from ≡ s .from)
             step-carries v e = (
               record {
                 along =
@@ -112,7 +145,9 @@ module _ (links parents : List ℕ) (search : Search) (ok : netVerdict (netOf li
                 from-is = refl;
                 reach-is =
                     e ∙ rw (next, d-is, f-is, a-is, i .reach-is)
-                    (sym (reach-step (treeIn links parents search) (all-in links parents search ok) (s .climb .node) (s .from) (low (s .from) l) on r (low _ up-there)));
+                    (sym
+                    (reach-step (treeIn links parents search) (all-in links parents search ok) (s .climb .node)
+                    (s .from) (low (s .from) l) on r (low _ up-there)));
               },
               next,
               refl,

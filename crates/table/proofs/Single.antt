@@ -58,7 +58,9 @@ mark-set x l =
     rw (getD-set-same {A = ℕ} (replicate nodeLimit 0) x 1 0 (omega (arith, l, length-replicate {A = ℕ} nodeLimit 0)))
 
 -- 8 at x, behind the check of the network
-pub entry-judged : (g : Net) (x : ℕ) (s : Checked) (z : Sizes) → s ≡ checked g → s ≡ Sound z → (w : Verdict) → w ≡ refuseIf (leb (z .nodes) x) NoRoute x → w ≡ entryVerdict g x
+pub entry-judged :
+    (g : Net) (x : ℕ) (s : Checked) (z : Sizes)
+    → s ≡ checked g → s ≡ Sound z → (w : Verdict) → w ≡ refuseIf (leb (z .nodes) x) NoRoute x → w ≡ entryVerdict g x
 unfolding entryVerdict
 entry-judged g x s z e t w q =
     q
@@ -67,7 +69,10 @@ entry-judged g x s z e t w q =
 
 module _ (g : Net) (x : ℕ) where
   -- what the run leaves at x
-  pub one-known : x < g .nodes → netVerdict g ≡ Taken → (row : List ℕ) → Entries (g .nodes) (freshAt g (onlyMark x) bareRow) bareRow row → (e : Entry) → e ≡ entryAt row x → e ≡ entry g x
+  pub one-known :
+      x < g .nodes
+      → netVerdict g ≡ Taken → (row : List ℕ) → Entries (g .nodes) (freshAt g (onlyMark x) bareRow) bareRow row
+      → (e : Entry) → e ≡ entryAt row x → e ≡ entry g x
   unfolding freshAt
   one-known l ok row h e q =
       q ∙ entry-known (g .nodes) (freshAt g (onlyMark x) bareRow) bareRow row x (entry g x) h l (rw (mark-set x (omega (arith, l, nodes-few g (sound g ok)))))

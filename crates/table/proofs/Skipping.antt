@@ -55,7 +55,11 @@ module _ (g : Net) (s : Sound g) (e : ℕ) (there : e < g .links) where
   same-side u l q x n =
       ap (has x) (route-step (treeOf g) u (home g s u l) (off-top u l q)) ∙ rw (n, off-top u l q, q)
 
-  own : (u : ℕ) → g .parent u ≡ e → ((x : ℕ) → eqb u x ≡ false → under (treeOf g) x (g .link e .first) ≡ under (treeOf g) x (g .link e .second)) → (x : ℕ) → crosses (treeOf g) x e (g .link e) ≡ false
+  own :
+      (u : ℕ)
+      → g .parent u ≡ e
+      → ((x : ℕ) → eqb u x ≡ false → under (treeOf g) x (g .link e .first) ≡ under (treeOf g) x (g .link e .second))
+      → (x : ℕ) → crosses (treeOf g) x e (g .link e) ≡ false
   unfolding crosses treeOf
   own u q h x = go (eqb u x) refl
     where
@@ -68,88 +72,108 @@ module _ (g : Net) (s : Sound g) (e : ℕ) (there : e < g .links) where
   -- a tree link crosses nothing
   own-first : g .parent (g .link e .first) ≡ e → (x : ℕ) → crosses (treeOf g) x e (g .link e) ≡ false
   unfolding otherEnd
-  own-first q = own (g .link e .first) q (λ x n. same-side (g .link e .first) (first-in g s e there) q x n ∙ rw (eq-eqb (g .link e .first) (g .link e .first) refl))
+  own-first q =
+      own (g .link e .first) q
+      (λ x n. same-side (g .link e .first) (first-in g s e there) q x n
+      ∙ rw (eq-eqb (g .link e .first) (g .link e .first) refl))
 
   own-second : g .parent (g .link e .second) ≡ e → (x : ℕ) → crosses (treeOf g) x e (g .link e) ≡ false
   unfolding otherEnd
-  own-second q = own (g .link e .second) q (λ x n. sym (same-side (g .link e .second) (second-in g s e there) q x n ∙ rw (ne-eqb (g .link e .first) (g .link e .second) (ends-differ g s e there))))
+  own-second q =
+      own (g .link e .second) q
+      (λ x n. sym
+      (same-side (g .link e .second) (second-in g s e there) q x n
+      ∙ rw (ne-eqb (g .link e .first) (g .link e .second) (ends-differ g s e there))))
 
   -- nor does one that is out of service
   idle : inService (g .link e) ≡ false → (x : ℕ) → crosses (treeOf g) x e (g .link e) ≡ false
   unfolding crosses
   idle q x = rw q
 
-module _ (links parents : List ℕ) (search : Search) (ok : netVerdict (netOf links parents search) ≡ Taken) (e : ℕ) (there : e < linksIn links) (l : Link) (lq : l ≡ linkIn links e) where
-  fine : Sound (netOf links parents search)
-  fine = sound (netOf links parents search) ok
+module _ (links parents : List ℕ) (search : Search) where
+  abbrev g : Net
+  g = netOf links parents search
 
-  in-net : e < netOf links parents search .links
-  unfolding netOf
-  in-net = there
+  module _ (ok : netVerdict g ≡ Taken) (e : ℕ) (there : e < linksIn links) (l : Link) (lq : l ≡ linkIn links e) where
+    fine : Sound g
+    fine = sound g ok
 
-  link-is : netOf links parents search .link e ≡ l
-  unfolding netOf
-  link-is = sym lq
+    in-net : e < g .links
+    unfolding netOf
+    in-net = there
 
-  parent-is : (u : ℕ) → netOf links parents search .parent u ≡ getD parents u noLink
-  unfolding netOf
-  parent-is u = refl
+    link-is : g .link e ≡ l
+    unfolding netOf
+    link-is = sym lq
 
-  pub first-node : l .first < length parents
-  unfolding netOf
-  first-node = rw lq (first-in (netOf links parents search) fine e in-net)
+    parent-is : (u : ℕ) → g .parent u ≡ getD parents u noLink
+    unfolding netOf
+    parent-is u = refl
 
-  pub second-node : l .second < length parents
-  unfolding netOf
-  second-node = rw lq (second-in (netOf links parents search) fine e in-net)
+    pub first-node : l .first < length parents
+    unfolding netOf
+    first-node = rw lq (first-in g fine e in-net)
 
-  module _ (n : ℕ) (marks row : List ℕ) where
-    pub skip-idle : (b : Bool) → b ≡ inService l → b ≡ false → Linked (netOf links parents search) n marks e row row
-    skip-idle b q p = linked-none _ n marks e row (idle _ fine e in-net (ap inService link-is ∙ sym q ∙ p))
+    pub second-node : l .second < length parents
+    unfolding netOf
+    second-node = rw lq (second-in g fine e in-net)
 
-    pub skip-first : (p : ℕ) → p ≡ getD parents (l .first) noLink → p ≡ e → Linked (netOf links parents search) n marks e row row
-    skip-first p q r = linked-none _ n marks e row (own-first _ fine e in-net it)
-      where
-        it : netOf links parents search .parent (netOf links parents search .link e .first) ≡ e
-        it = rw link-is (parent-is _ ∙ sym q ∙ r)
+    module _ (n : ℕ) (marks row : List ℕ) where
+      pub skip-idle : (b : Bool) → b ≡ inService l → b ≡ false → Linked g n marks e row row
+      skip-idle b q p = linked-none _ n marks e row (idle _ fine e in-net (ap inService link-is ∙ sym q ∙ p))
 
-    pub skip-second : (p : ℕ) → p ≡ getD parents (l .second) noLink → p ≡ e → Linked (netOf links parents search) n marks e row row
-    skip-second p q r = linked-none _ n marks e row (own-second _ fine e in-net it)
-      where
-        it : netOf links parents search .parent (netOf links parents search .link e .second) ≡ e
-        it = rw link-is (parent-is _ ∙ sym q ∙ r)
+      pub skip-first : (p : ℕ) → p ≡ getD parents (l .first) noLink → p ≡ e → Linked g n marks e row row
+      skip-first p q r = linked-none _ n marks e row (own-first _ fine e in-net it)
+        where
+          it : g .parent (g .link e .first) ≡ e
+          it = rw link-is (parent-is _ ∙ sym q ∙ r)
 
-  -- the two climbs begin at the ends
-  pub starting : (a b : Side) → Carries (treeIn links parents search) (l .first) a × (a .climb .node ≡ l .first) → Carries (treeIn links parents search) (l .second) b × (b .climb .node ≡ l .second) → Starting (netOf links parents search) e a b
-  starting a b p q =
-      record {
-        one = rw link-is (p .0);
-        one-at = rw link-is (p .1);
-        two = rw link-is (q .0);
-        two-at = rw link-is (q .1);
-      }
+      pub skip-second : (p : ℕ) → p ≡ getD parents (l .second) noLink → p ≡ e → Linked g n marks e row row
+      skip-second p q r = linked-none _ n marks e row (own-second _ fine e in-net it)
+        where
+          it : g .parent (g .link e .second) ≡ e
+          it = rw link-is (parent-is _ ∙ sym q ∙ r)
 
-  -- what the code adds up for K is K
-  module _ (near : List ℕ) (h : Holds (length parents) (dist (treeIn links parents search)) near) (held : (i : ℕ) → getD links i 0 ≤ longest) (f z : ℕ) (fq : f ≡ getD near (l .first) 0) (zq : z ≡ getD near (l .second) 0) where
-    f-is : f ≡ dist (treeIn links parents search) (l .first)
-    f-is = fq ∙ h .each (l .first) first-node
-
-    z-is : z ≡ dist (treeIn links parents search) (l .second)
-    z-is = zq ∙ h .each (l .second) second-node
-
-    pub k-fits : f + l .length + z < 2 ^ 64
-    k-fits = omega (arith, f-is, z-is, dist-few links parents search ok held (l .first), dist-few links parents search ok held (l .second), few-long)
-      where
-        few-long : l .length ≤ longest
-        few-long = rw lq (length-held links held e)
-
-    pub spare : (b : Bool) → b ≡ inService l → b ≡ true → (p : ℕ) → p ≡ getD parents (l .first) noLink → (p ≡ e → ⊥) → (q : ℕ) → q ≡ getD parents (l .second) noLink → (q ≡ e → ⊥) → Spare (netOf links parents search) e (f + l .length + z)
-    unfolding through
-    spare b bq bt p pq pn q qq qn =
+    -- the two climbs begin at the ends
+    pub starting :
+        (a b : Side)
+        → Carries (treeIn links parents search) (l .first) a × (a .climb .node ≡ l .first)
+        → Carries (treeIn links parents search) (l .second) b × (b .climb .node ≡ l .second)
+        → Starting g e a b
+    starting a b p q =
         record {
-          there = in-net;
-          serves = ap inService link-is ∙ sym bq ∙ bt;
-          not-first = λ r. pn (pq ∙ sym (parent-is (l .first)) ∙ (rw link-is at r));
-          not-second = λ r. qn (qq ∙ sym (parent-is (l .second)) ∙ (rw link-is at r));
-          through-is = rw (link-is, f-is, z-is);
+          one = rw link-is (p .0);
+          one-at = rw link-is (p .1);
+          two = rw link-is (q .0);
+          two-at = rw link-is (q .1);
         }
+
+    -- what the code adds up for K is K
+    module _ (near : List ℕ) (h : Holds (length parents) (dist (treeIn links parents search)) near)
+        (held : (i : ℕ) → getD links i 0 ≤ longest) (f z : ℕ) (fq : f ≡ getD near (l .first) 0)
+        (zq : z ≡ getD near (l .second) 0) where
+      f-is : f ≡ dist (treeIn links parents search) (l .first)
+      f-is = fq ∙ h .each (l .first) first-node
+
+      z-is : z ≡ dist (treeIn links parents search) (l .second)
+      z-is = zq ∙ h .each (l .second) second-node
+
+      pub k-fits : f + l .length + z < 2 ^ 64
+      k-fits = omega (arith, f-is, z-is, dist-few links parents search ok held (l .first), dist-few links parents search ok held (l .second), few-long)
+        where
+          few-long : l .length ≤ longest
+          few-long = rw lq (length-held links held e)
+
+      pub spare :
+          (b : Bool)
+          → b ≡ inService l → b ≡ true → (p : ℕ) → p ≡ getD parents (l .first) noLink → (p ≡ e → ⊥) → (q : ℕ)
+          → q ≡ getD parents (l .second) noLink → (q ≡ e → ⊥) → Spare g e (f + l .length + z)
+      unfolding through
+      spare b bq bt p pq pn q qq qn =
+          record {
+            there = in-net;
+            serves = ap inService link-is ∙ sym bq ∙ bt;
+            not-first = λ r. pn (pq ∙ sym (parent-is (l .first)) ∙ (rw link-is at r));
+            not-second = λ r. qn (qq ∙ sym (parent-is (l .second)) ∙ (rw link-is at r));
+            through-is = rw (link-is, f-is, z-is);
+          }

@@ -18,7 +18,10 @@ pub entry-known : (n : ℕ) (f : ℕ → List ℕ) (before row : List ℕ) (x : 
 entry-known n f before row x e h l q = keeping.entry-known row x e (h .each x l ∙ q)
 
 -- an entry is written
-pub entries-put : (n : ℕ) (f : ℕ → List ℕ) (before row : List ℕ) (x : ℕ) (e : Entry) → Entries n f before row → x < n → n ≤ entriesIn before → Entries n (λ y. cond (eqb x y) (entryRow e) (f y)) before (putEntry row x e)
+pub entries-put :
+    (n : ℕ) (f : ℕ → List ℕ) (before row : List ℕ) (x : ℕ) (e : Entry)
+    → Entries n f before row → x < n → n ≤ entriesIn before
+    → Entries n (λ y. cond (eqb x y) (entryRow e) (f y)) before (putEntry row x e)
 entries-put n f before row x e h l room =
     record {
       size = keeping.put-length row x e ∙ h .size;

@@ -13,7 +13,7 @@ use Rattle.edition.specs.Limits.{nodeLimit, longest}
 use Rattle.rows.specs.Lists.{total}
 use Rattle.rows.proofs.Counting.{sum-bound}
 use Rattle.rows.proofs.Listed.{total-bound}
-use Rattle.network.specs.Network.{netOf}
+use Rattle.network.specs.Network.{Net, netOf}
 use Rattle.tree.specs.Tree.{Tree, treeOf, route, dist}
 use Rattle.tree.proofs.Ways.{Home, home-up, route-root, route-length, under-self}
 use Rattle.tree.proofs.Bounded.{under-below}
@@ -49,115 +49,143 @@ no-term links parents search c e =
     let none : count (treeIn links parents search) c - count (treeIn links parents search) c ≡ 0 = omega arith in
     rw (root-up links parents search c e, none) (zero-mul _)
 
-root-stem : (links parents : List ℕ) (search : Search) (c : ℕ) → Home (treeIn links parents search) c → eqb c (treeIn links parents search .root) ≡ true → stem (treeIn links parents search) c ≡ 0
+root-stem :
+    (links parents : List ℕ) (search : Search) (c : ℕ)
+    → Home (treeIn links parents search) c → eqb c (treeIn links parents search .root) ≡ true
+    → stem (treeIn links parents search) c ≡ 0
 unfolding stem total
 root-stem links parents search c h e =
     ap (total (stemAt (treeIn links parents search))) (route-root (treeIn links parents search) c h e) ∙ omega (arith, no-term links parents search c e)
 
-module _ (links parents : List ℕ) (search : Search) (ok : netVerdict (netOf links parents search) ≡ Taken) (held : (i : ℕ) → getD links i 0 ≤ longest) where
-  pub counts-small : (x : ℕ) → count (treeIn links parents search) x ≤ nodeLimit
-  counts-small x = omega (arith, count-few (treeIn links parents search) x, size-in links parents search, small links parents search ok held)
+module _ (links parents : List ℕ) (search : Search) where
+  abbrev g : Net
+  g = netOf links parents search
 
-  pub product-small : (a x : ℕ) → a ≤ nodeLimit → a * dist (treeIn links parents search) x ≤ most
-  product-small a x l = mul-le-mul l (dist-few links parents search ok held x)
+  module _ (ok : netVerdict g ≡ Taken) (held : (i : ℕ) → getD links i 0 ≤ longest) where
+    pub counts-small : (x : ℕ) → count (treeIn links parents search) x ≤ nodeLimit
+    counts-small x = omega (arith, count-few (treeIn links parents search) x, size-in links parents search, small links parents search ok held)
 
-  stem-at-small : (v : ℕ) → stemAt (treeIn links parents search) v ≤ most
-  unfolding stemAt
-  stem-at-small v = product-small _ _ (omega (arith, counts-small (treeIn links parents search .up v)))
+    pub product-small : (a x : ℕ) → a ≤ nodeLimit → a * dist (treeIn links parents search) x ≤ most
+    product-small a x l = mul-le-mul l (dist-few links parents search ok held x)
 
-  pub stem-small : (x : ℕ) → stem (treeIn links parents search) x ≤ nodeLimit * most
-  unfolding stem
-  stem-small x =
-      let k : length (route (treeIn links parents search) x) ≤ nodeLimit = omega (arith, route-length (treeIn links parents search) x, size-in links parents search, small links parents search ok held) in
-      omega (arith, total-bound (stemAt (treeIn links parents search)) most stem-at-small (route (treeIn links parents search) x))
+    stem-at-small : (v : ℕ) → stemAt (treeIn links parents search) v ≤ most
+    unfolding stemAt
+    stem-at-small v = product-small _ _ (omega (arith, counts-small (treeIn links parents search .up v)))
 
-  weight-small : (x : ℕ) → weight (treeIn links parents search) x ≤ most
-  unfolding weight
-  weight-small x =
-      let t = treeIn links parents search in
-      omega (arith, sum-bound (inside t x (dist t)) (t .size) (nodeLimit * longest) (λ j i. inside-small t x (dist t) j (nodeLimit * longest) (λ e. dist-few links parents search ok held j)), size-in links parents search, small links parents search ok held)
+    pub stem-small : (x : ℕ) → stem (treeIn links parents search) x ≤ nodeLimit * most
+    unfolding stem
+    stem-small x =
+        let k : length (route (treeIn links parents search) x) ≤ nodeLimit =
+        omega (
+          arith,
+          route-length (treeIn links parents search) x,
+          size-in links parents search,
+          small links parents search ok held,
+        )
+        in
+        omega (arith, total-bound (stemAt (treeIn links parents search)) most stem-at-small (route (treeIn links parents search) x))
 
-  pub base-small : (x : ℕ) → base (treeIn links parents search) x ≤ most + 2 * (nodeLimit * most)
-  unfolding base
-  base-small x = omega (arith, weight-small x, stem-small x)
+    weight-small : (x : ℕ) → weight (treeIn links parents search) x ≤ most
+    unfolding weight
+    weight-small x =
+        let t = treeIn links parents search in
+        omega (
+          arith,
+          sum-bound (inside t x (dist t)) (t .size) (nodeLimit * longest)
+              (λ j i. inside-small t x (dist t) j (nodeLimit * longest) (λ e. dist-few links parents search ok held j)),
+          size-in links parents search,
+          small links parents search ok held,
+        )
 
-  -- a climb from x to c with the sum so far
-  module _ (x : ℕ) (lx : x < length parents) where
-    s : Sound (netOf links parents search)
-    s = sound (netOf links parents search) ok
+    pub base-small : (x : ℕ) → base (treeIn links parents search) x ≤ most + 2 * (nodeLimit * most)
+    unfolding base
+    base-small x = omega (arith, weight-small x, stem-small x)
 
-    hx : Home (treeIn links parents search) x
-    unfolding netOf
-    hx = home (netOf links parents search) s x lx
+    -- a climb from x to c with the sum so far
+    module _ (x : ℕ) (lx : x < length parents) where
+      s : Sound g
+      s = sound g ok
 
-    pub stem-start : Stemming (treeIn links parents search) x x 0
-    stem-start = record { on = under-self (treeIn links parents search) x hx; left = omega arith }
+      hx : Home (treeIn links parents search) x
+      unfolding netOf
+      hx = home g s x lx
 
-    module _ (c sum : ℕ) (i : Stemming (treeIn links parents search) x c sum) where
-      stem-in : c < length parents
-      unfolding treeOf netOf
-      stem-in = under-below (treeIn links parents search) (up-in (netOf links parents search) s) x c hx lx (i .on)
+      pub stem-start : Stemming (treeIn links parents search) x x 0
+      stem-start = record { on = under-self (treeIn links parents search) x hx; left = omega arith }
 
-      -- at the root nothing is left
-      pub stem-end : c ≡ search .root → sum ≡ stem (treeIn links parents search) x
-      stem-end e =
-          omega (arith, i .left, root-stem links parents search c (home-up (treeIn links parents search) x c hx (i .on)) (at-root links parents search c e))
-
-      module _ (n : c ≡ search .root → ⊥) (p : ℕ) (q : p ≡ treeIn links parents search .up c) where
-        r : eqb c (treeIn links parents search .root) ≡ false
-        r = off-root links parents search c n
-
-        all : (u : ℕ) → u < treeIn links parents search .size → Home (treeIn links parents search) u
+      module _ (c sum : ℕ) (i : Stemming (treeIn links parents search) x c sum) where
+        stem-in : c < length parents
         unfolding treeOf netOf
-        all u l = home (netOf links parents search) s u l
+        stem-in = under-below (treeIn links parents search) (up-in g s) x c hx lx (i .on)
 
-        hc : Home (treeIn links parents search) c
-        hc = home-up (treeIn links parents search) x c hx (i .on)
+        -- at the root nothing is left
+        pub stem-end : c ≡ search .root → sum ≡ stem (treeIn links parents search) x
+        stem-end e =
+            omega (arith, i .left, root-stem links parents search c (home-up (treeIn links parents search) x c hx (i .on)) (at-root links parents search c e))
 
-        pub parent-in : p < length parents
-        unfolding treeOf netOf
-        parent-in = rw q (up-in (netOf links parents search) s c stem-in)
+        module _ (n : c ≡ search .root → ⊥) (p : ℕ) (q : p ≡ treeIn links parents search .up c) where
+          r : eqb c (treeIn links parents search .root) ≡ false
+          r = off-root links parents search c n
 
-        module _ (near counts : List ℕ) (h : Holds (length parents) (dist (treeIn links parents search)) near) (k : Holds (length parents) (count (treeIn links parents search)) counts) where
-          at-p : getD counts p 0 ≡ count (treeIn links parents search) (treeIn links parents search .up c)
-          at-p = k .each p parent-in ∙ ap (count (treeIn links parents search)) q
+          all : (u : ℕ) → u < treeIn links parents search .size → Home (treeIn links parents search) u
+          unfolding treeOf netOf
+          all u l = home g s u l
 
-          at-c : getD counts c 0 ≡ count (treeIn links parents search) c
-          at-c = k .each c stem-in
+          hc : Home (treeIn links parents search) c
+          hc = home-up (treeIn links parents search) x c hx (i .on)
 
-          near-p : getD near p 0 ≡ dist (treeIn links parents search) (treeIn links parents search .up c)
-          near-p = h .each p parent-in ∙ ap (dist (treeIn links parents search)) q
+          pub parent-in : p < length parents
+          unfolding treeOf netOf
+          parent-in = rw q (up-in g s c stem-in)
 
-          pub counts-less : getD counts c 0 ≤ getD counts p 0
-          counts-less = rw (at-p, at-c) (count-up (treeIn links parents search) all c c hc (under-self (treeIn links parents search) c hc) r)
+          module _ (near counts : List ℕ) (h : Holds (length parents) (dist (treeIn links parents search)) near)
+              (k : Holds (length parents) (count (treeIn links parents search)) counts) where
+            at-p : getD counts p 0 ≡ count (treeIn links parents search) (treeIn links parents search .up c)
+            at-p = k .each p parent-in ∙ ap (count (treeIn links parents search)) q
 
-          term-is : (getD counts p 0 - getD counts c 0) * getD near p 0 ≡ stemAt (treeIn links parents search) c
-          unfolding stemAt
-          term-is = rw (at-p, at-c, near-p)
+            at-c : getD counts c 0 ≡ count (treeIn links parents search) c
+            at-c = k .each c stem-in
 
-          pub term-fits : (getD counts p 0 - getD counts c 0) * getD near p 0 < 2 ^ 64
-          term-fits = omega (arith, term-is, stem-at-small c)
+            near-p : getD near p 0 ≡ dist (treeIn links parents search) (treeIn links parents search .up c)
+            near-p = h .each p parent-in ∙ ap (dist (treeIn links parents search)) q
 
-          next : stem (treeIn links parents search) c ≡ stemAt (treeIn links parents search) c + stem (treeIn links parents search) (treeIn links parents search .up c)
-          unfolding stemAt
-          next = stem-step (treeIn links parents search) all c c hc (under-self (treeIn links parents search) c hc) r
+            pub counts-less : getD counts c 0 ≤ getD counts p 0
+            counts-less = rw (at-p, at-c) (count-up (treeIn links parents search) all c c hc (under-self (treeIn links parents search) c hc) r)
 
-          pub sum-fits : (v : ℕ) → v ≡ (getD counts p 0 - getD counts c 0) * getD near p 0 → sum + v < 2 ^ 64
-          sum-fits v e = omega (arith, e ∙ term-is, i .left, next, stem-small x)
+            term-is : (getD counts p 0 - getD counts c 0) * getD near p 0 ≡ stemAt (treeIn links parents search) c
+            unfolding stemAt
+            term-is = rw (at-p, at-c, near-p)
 
-          pub stem-more : (v : ℕ) → v ≡ (getD counts p 0 - getD counts c 0) * getD near p 0 → Stemming (treeIn links parents search) x p (sum + v)
-          stem-more v e =
-              rw q
-              (record {
-                on = on-parent (treeIn links parents search) x hx c (i .on) r;
-                left = omega (arith, e ∙ term-is, i .left, next);
-              })
+            pub term-fits : (getD counts p 0 - getD counts c 0) * getD near p 0 < 2 ^ 64
+            term-fits = omega (arith, term-is, stem-at-small c)
 
-          pub stem-less : length (route (treeIn links parents search) p) < length (route (treeIn links parents search) c)
-          stem-less = rw q (omega (arith, shorter (treeIn links parents search) x hx c (i .on) r))
+            next :
+                stem (treeIn links parents search) c
+                ≡ stemAt (treeIn links parents search) c + stem (treeIn links parents search)
+                (treeIn links parents search .up c)
+            unfolding stemAt
+            next = stem-step (treeIn links parents search) all c c hc (under-self (treeIn links parents search) c hc) r
+
+            pub sum-fits : (v : ℕ) → v ≡ (getD counts p 0 - getD counts c 0) * getD near p 0 → sum + v < 2 ^ 64
+            sum-fits v e = omega (arith, e ∙ term-is, i .left, next, stem-small x)
+
+            pub stem-more : (v : ℕ) → v ≡ (getD counts p 0 - getD counts c 0) * getD near p 0 → Stemming (treeIn links parents search) x p (sum + v)
+            stem-more v e =
+                rw q
+                (record {
+                  on = on-parent (treeIn links parents search) x hx c (i .on) r;
+                  left = omega (arith, e ∙ term-is, i .left, next);
+                })
+
+            pub stem-less : length (route (treeIn links parents search) p) < length (route (treeIn links parents search) c)
+            stem-less = rw q (omega (arith, shorter (treeIn links parents search) x hx c (i .on) r))
 
 -- the two numbers of a node, from what the rows hold
-module _ (links parents : List ℕ) (search : Search) (ok : netVerdict (netOf links parents search) ≡ Taken) (held : (i : ℕ) → getD links i 0 ≤ longest) (near counts weights : List ℕ) (h : Holds (length parents) (dist (treeIn links parents search)) near) (k : Holds (length parents) (count (treeIn links parents search)) counts) (w : Holds (length parents) (weight (treeIn links parents search)) weights) (x : ℕ) (l : x < length parents) where
+module _ (links parents : List ℕ) (search : Search) (ok : netVerdict (netOf links parents search) ≡ Taken)
+    (held : (i : ℕ) → getD links i 0 ≤ longest) (near counts weights : List ℕ)
+    (h : Holds (length parents) (dist (treeIn links parents search)) near)
+    (k : Holds (length parents) (count (treeIn links parents search)) counts)
+    (w : Holds (length parents) (weight (treeIn links parents search)) weights) (x : ℕ) (l : x < length parents) where
   pub own-is : (a b : ℕ) → a ≡ getD counts x 0 → b ≡ getD near x 0 → a * b ≡ count (treeIn links parents search) x * dist (treeIn links parents search) x
   own-is a b p q = ap₂ (λ (a b : ℕ). a * b) (p ∙ k .each x l) (q ∙ h .each x l)
 
@@ -171,6 +199,9 @@ module _ (links parents : List ℕ) (search : Search) (ok : netVerdict (netOf li
   unfolding base
   base-is a s p q = rw (p ∙ w .each x l, q)
 
-  pub turn-is : (o s : ℕ) → o ≡ count (treeIn links parents search) x * dist (treeIn links parents search) x → s ≡ stem (treeIn links parents search) x → 2 * (o + s) ≡ turn (treeIn links parents search) x
+  pub turn-is :
+      (o s : ℕ)
+      → o ≡ count (treeIn links parents search) x * dist (treeIn links parents search) x
+      → s ≡ stem (treeIn links parents search) x → 2 * (o + s) ≡ turn (treeIn links parents search) x
   unfolding turn
   turn-is o s p q = rw (p, q)

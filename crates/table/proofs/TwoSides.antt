@@ -31,6 +31,9 @@ module _ (t : Tree) (all : (u : ℕ) → u < t .size → Home t u) where
       each u l false p = rw (inside-out t y (λ u. 1) u p) (omega arith)
 
 -- where the two climbs come together, the routes meet
-pub together : (t : Tree) (p q x : ℕ) → under t x p ≡ true → under t x q ≡ true → ((v : ℕ) → has v (upTo x (route t p)) ≡ true → under t v q ≡ false) → x ≡ meet t p q
+pub together :
+    (t : Tree) (p q x : ℕ)
+    → under t x p ≡ true → under t x q ≡ true → ((v : ℕ) → has v (upTo x (route t p)) ≡ true → under t v q ≡ false)
+    → x ≡ meet t p q
 unfolding meet under
 together t p q x px qx none = meets-only (route t p) (route t q) x (record { one = px; two = qx; none = none })

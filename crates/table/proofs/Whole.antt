@@ -31,7 +31,10 @@ use Rattle.table.specs.Work.{Entries}
 use Rattle.table.proofs.Slots.{entries-list}
 
 -- 10, behind the check of the network
-pub table-judged : (g : Net) (row : List ℕ) (s : Checked) (z : Sizes) → s ≡ checked g → s ≡ Sound z → (k : ℕ) → k ≡ entriesIn row → (w : Verdict) → w ≡ refuseIf (ltb k (z .nodes)) NoRoom 0 → w ≡ tableVerdict g row
+pub table-judged :
+    (g : Net) (row : List ℕ) (s : Checked) (z : Sizes)
+    → s ≡ checked g → s ≡ Sound z → (k : ℕ) → k ≡ entriesIn row → (w : Verdict)
+    → w ≡ refuseIf (ltb k (z .nodes)) NoRoom 0 → w ≡ tableVerdict g row
 unfolding tableVerdict
 table-judged g row s z e t k p w q =
     q
@@ -50,7 +53,10 @@ module _ (g : Net) (row : List ℕ) where
       ltb-false (entriesIn row) (g .nodes) (if-taken _ NoRoom 0 (head-taken _ _ (rest-taken _ _ (sym q ∙ t))))
 
   module _ (marks : List ℕ) where
-    pub fresh-taken : (v : Verdict) → v ≡ tableVerdict g row → v ≡ Taken → (row′ : List ℕ) → Entries (g .nodes) (freshAt g marks row) row row′ → (Taken ≡ tableVerdict g row) × (row′ ≡ freshRow g marks row)
+    pub fresh-taken :
+        (v : Verdict)
+        → v ≡ tableVerdict g row → v ≡ Taken → (row′ : List ℕ) → Entries (g .nodes) (freshAt g marks row) row row′
+        → (Taken ≡ tableVerdict g row) × (row′ ≡ freshRow g marks row)
     unfolding freshRow
     fresh-taken v q t row′ h =
         (sym t ∙ q, rw (← q, t) (entries-list (g .nodes) (freshAt g marks row) row row′ (table-room v q t) h))

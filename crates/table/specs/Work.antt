@@ -86,7 +86,11 @@ kid t back n q i = onlyIf (child t q (placed back n i)) (deepest t (placed back 
 -- a whole pass: each node is raised to its parent's first number and to what is deepest below its siblings before it
 pub record Passed (t : Tree) (back : Bool) (n : ℕ) (most out out′ : List ℕ) : Type 0 where
   pub size : length out′ ≡ length out
-  pub each : (x : ℕ) → x < n → eqb x (t .root) ≡ false → getD out′ x 0 ≡ max (getD out x 0) (max (getD most (t .up x) 0) (maxTo (kid t back n (t .up x)) (placed back n x)))
+  pub each :
+      (x : ℕ)
+      → x < n → eqb x (t .root) ≡ false
+      → getD out′ x 0
+      ≡ max (getD out x 0) (max (getD most (t .up x) 0) (maxTo (kid t back n (t .up x)) (placed back n x)))
 
 -- a row holds what is beside each node but the root
 pub record Asides (t : Tree) (n : ℕ) (row : List ℕ) : Type 0 where
@@ -131,7 +135,10 @@ want g marks before k x = cond (marked marks x) (entryRow (entry (firstLinks g k
 
 -- link e offered at x: the record of x, and no other, goes on from e links to one more
 pub record OfferedAt (g : Net) (n : ℕ) (marks : List ℕ) (e x : ℕ) (row row′ : List ℕ) : Type 0 where
-  pub goes-on : (before : List ℕ) (f : ℕ → List ℕ) → Entries n f before row → f x ≡ want g marks before e x → Entries n (λ y. cond (eqb x y) (want g marks before (suc e) y) (f y)) before row′
+  pub goes-on :
+      (before : List ℕ) (f : ℕ → List ℕ)
+      → Entries n f before row → f x ≡ want g marks before e x
+      → Entries n (λ y. cond (eqb x y) (want g marks before (suc e) y) (f y)) before row′
 
 -- hops within a depth
 unfoldable pub withinBy : ℕ → ℕ → Bool

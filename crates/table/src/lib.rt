@@ -586,7 +586,9 @@ fn first_entry(search: Search, x: usize) -> Entry
 // The entry of x as it is before any link, where x is marked.
 fn clear_at(search: Search, marks: &[u64], entries: &mut [u64], x: usize)
     ensures { λ _.
-        ⌜ now (entries .exit) ≡ cond (marked (now (marks .entry)) x) (putEntry (now (entries .entry)) x (blank (cond (eqb x (search .root)) rootState bridgeState))) (now (entries .entry)) ⌝ }
+        let before = now (entries .entry) in
+        let first = blank (cond (eqb x (search .root)) rootState bridgeState) in
+        ⌜ now (entries .exit) ≡ cond (marked (now (marks .entry)) x) (putEntry before x first) before ⌝ }
 {
     if rows::wide_at(marks, x) == 0 {
         return;
@@ -598,7 +600,9 @@ fn clear_at(search: Search, marks: &[u64], entries: &mut [u64], x: usize)
 fn clear_marked(parents: &[u16], search: Search, marks: &[u64], entries: &mut [u64])
     requires { ⌜ length (now parents) ≤ entriesIn (now entries) ⌝ }
     ensures { λ _.
-        ⌜ Entries (length (now (parents .entry))) (startAt (search .root) (now (marks .entry)) (now (entries .entry))) (now (entries .entry)) (now (entries .exit)) ⌝ }
+        let before = now (entries .entry) in
+        let first = startAt (search .root) (now (marks .entry)) before in
+        ⌜ Entries (length (now (parents .entry))) first before (now (entries .exit)) ⌝ }
 {
     let mut x = 0;
     while x < parents.len() {

@@ -22,7 +22,9 @@ unfolding wordsIn
 words-length bytes n = omega (arith, rows-length (λ u. wordIn bytes u ∷ []) 1 (λ x. refl) n)
 
 -- a row all of whose numbers are written
-pub words-filled : (bytes before : List ℕ) (k : ℕ) (now : List ℕ) → Filled (wordIn bytes) (length before) before k now → length before ≤ k → now ≡ wordsIn bytes (length before)
+pub words-filled :
+    (bytes before : List ℕ) (k : ℕ) (now : List ℕ)
+    → Filled (wordIn bytes) (length before) before k now → length before ≤ k → now ≡ wordsIn bytes (length before)
 unfolding wordsIn rowWith
 words-filled bytes before k now s l =
     let front : List ℕ = rowsTo (λ u. wordIn bytes u ∷ []) (length before) in

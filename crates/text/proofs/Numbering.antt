@@ -70,7 +70,10 @@ unfolding lineEnd
 line-sought text at = sought (ends text) at (length text - at)
 
 -- the number behind a place that passes, in numbers alone
-counts-on : (p : ℕ → Bool) (at end stop n : ℕ) → Sought p at (stop - at) end → n ≡ passing p (min at stop) + 1 → min end stop + 1 ≤ stop → min n stop + 1 ≡ passing p (min (min end stop + 1) stop) + 1
+counts-on :
+    (p : ℕ → Bool) (at end stop n : ℕ)
+    → Sought p at (stop - at) end → n ≡ passing p (min at stop) + 1 → min end stop + 1 ≤ stop
+    → min n stop + 1 ≡ passing p (min (min end stop + 1) stop) + 1
 counts-on p at end stop n s e l =
     let here : min at stop ≡ at = omega (arith, s .low) in
     let behind : min (min end stop + 1) stop ≡ suc end = omega arith in
@@ -127,6 +130,9 @@ module _ (text : List ℕ) (c : Cursor) where
   unfolding nextLine
   goes-on s e l = rw e (omega (arith, line-sought text (c .at) .low))
 
-  pub number-next : c .number ≡ lineNumber text (c .at) → nextLine text c .next .at ≤ length text → nextLine text c .next .number ≡ lineNumber text (nextLine text c .next .at)
+  pub number-next :
+      c .number ≡ lineNumber text (c .at)
+      → nextLine text c .next .at ≤ length text
+      → nextLine text c .next .number ≡ lineNumber text (nextLine text c .next .at)
   unfolding nextLine lineNumber
   number-next e l = counts-on (ends text) (c .at) (lineEnd text (c .at)) (length text) (c .number) (line-sought text (c .at)) e l

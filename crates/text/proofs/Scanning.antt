@@ -70,7 +70,13 @@ module _ (text : List ℕ) (from to : ℕ) where
   module _ (v i : ℕ) (s : Spelling text from to v i) where
     pub spell-more : i < to → (w : ℕ) → w ≡ withDigit v (byteAt text i) → Spelling text from to w (i + 1)
     spell-more l w e =
-        record { is = rw add-one (s .is ∙ (ap (numberFrom text v i) (less-one i to l) ∙ (number-more text v i (to - suc i) ∙ ap (λ u. numberFrom text u (suc i) (to - suc i)) (sym e)))) }
+        record {
+          is =
+              rw add-one
+              (s .is
+              ∙ (ap (numberFrom text v i) (less-one i to l)
+              ∙ (number-more text v i (to - suc i) ∙ ap (λ u. numberFrom text u (suc i) (to - suc i)) (sym e))));
+        }
 
     pub spell-done : to ≤ i → v ≡ numberFrom text 0 from (to - from)
     spell-done l = sym (s .is ∙ (ap (numberFrom text v i) (none-left i to l) ∙ number-end text v i))
@@ -91,9 +97,17 @@ module _ (text : List ℕ) (from : ℕ) (name : List ℕ) where
     pub match-more : (a b : ℕ) → a ≡ byteAt text (from + i) → b ≡ byteAt name i → a ≡ b → Matching text from name (i + 1)
     unfolding byteAt
     match-more a b e f g =
-        record { same = rw add-one (lastly (λ j. differ text from name j ≡ false) i (s .same) (ap not (eq-eqb (byteAt text (from + i)) (byteAt name i) (sym e ∙ (g ∙ f))))) }
+        record {
+          same =
+              rw add-one
+              (lastly (λ j. differ text from name j ≡ false) i (s .same)
+              (ap not (eq-eqb (byteAt text (from + i)) (byteAt name i) (sym e ∙ (g ∙ f)))));
+        }
 
-    pub match-not : i < length name → (a b : ℕ) → a ≡ byteAt text (from + i) → b ≡ byteAt name i → (a ≡ b → ⊥) → false ≡ not (someTo (differ text from name) (length name))
+    pub match-not :
+        i < length name
+        → (a b : ℕ) → a ≡ byteAt text (from + i) → b ≡ byteAt name i → (a ≡ b → ⊥)
+        → false ≡ not (someTo (differ text from name) (length name))
     unfolding byteAt
     match-not l a b e f g =
         sym (ap not (one-some (differ text from name) (length name) i l (ap not (ne-eqb (byteAt text (from + i)) (byteAt name i) (λ h. g (e ∙ (h ∙ sym f)))))))

@@ -6,7 +6,9 @@ ghost use Prim.Native.Nat.{_+_, _-_, _≤_, min};
 ghost use lib.Dec.{eqb};
 ghost use lib.ListN.{length, getD};
 ghost use Rattle.rows.specs.Count.{someTo};
-ghost use Rattle.text.specs.Words.{newline, byteAt, isBlank, isPast, lineEnd, wordFrom, wordTo, withDigit, numberFrom, isNamed, kindOf, nameOf, valueOf, nextValue, nextEnd, lineOf, firstLine, nextLine, markOf};
+ghost use Rattle.text.specs.Words.{newline, byteAt, isBlank, isPast, lineEnd, wordFrom, wordTo};
+ghost use Rattle.text.specs.Words.{withDigit, numberFrom, isNamed, kindOf, nameOf, valueOf};
+ghost use Rattle.text.specs.Words.{nextValue, nextEnd, lineOf, firstLine, nextLine, markOf};
 use edition::Edition;
 
 // A word of a line: its value, and where it ends.
@@ -172,7 +174,10 @@ fn number_of(text: &[u8], from: usize, to: usize) -> u32
 // Whether the bytes from a place on are those of the name, as many as it has.
 fn is_same(text: &[u8], from: usize, name: &[u8]) -> bool
     requires { ⌜ from + length (now name) ≤ length (now text) ⌝ }
-    ensures { λ r. ⌜ r ≡ not (someTo (λ i. not (eqb (byteAt (now (text .entry)) (from + i)) (getD (now (name .entry)) i newline))) (length (now (name .entry)))) ⌝ }
+    ensures { λ r.
+        let name′ = now (name .entry) in
+        let text′ = now (text .entry) in
+        ⌜ r ≡ not (someTo (λ i. not (eqb (byteAt text′ (from + i)) (getD name′ i newline))) (length name′)) ⌝ }
 {
     let mut i = 0;
     while i < name.len() {

@@ -84,7 +84,10 @@ module _ (t : Tree) where
   climb-exact u k h q = ap (λ (j : ℕ). climb t j u) q ∙ exact (way t u h)
 
   -- what the recursion wrote of a whole route
-  routed-whole : (u : ℕ) → Home t u → (k : ℕ) → k ≡ length (route t u) → (row after : List ℕ) (r : ℕ) → k ≤ length row → Routed t k u 0 row r after → (r ≡ dist t u) × (after ≡ route t u ++ drop (length (route t u)) row)
+  routed-whole :
+      (u : ℕ)
+      → Home t u → (k : ℕ) → k ≡ length (route t u) → (row after : List ℕ) (r : ℕ) → k ≤ length row
+      → Routed t k u 0 row r after → (r ≡ dist t u) × (after ≡ route t u ++ drop (length (route t u)) row)
   unfolding dist
   routed-whole u h k q row after r room s =
       let c = climb-exact u k h q in
@@ -110,29 +113,43 @@ fits-room room k v q p = ltb-false room k (if-taken _ NoRoom 0 (sym q ∙ p))
 
 module _ (g : Net) (u : ℕ) (row : List ℕ) where
   -- the route is refused for the node
-  pub route-lost : (v : Verdict) (r : Refusal) (a : Answer) → v ≡ wayVerdict g u → v ≡ Refused r → a ≡ answerIf v 0 → (a ≡ routeAnswer g u row) × (row ≡ routeRow g u row)
+  pub route-lost :
+      (v : Verdict) (r : Refusal) (a : Answer)
+      → v ≡ wayVerdict g u → v ≡ Refused r → a ≡ answerIf v 0 → (a ≡ routeAnswer g u row) × (row ≡ routeRow g u row)
   unfolding routeAnswer routeRow routeVerdict
   route-lost v r a q p e =
       let w = head-refuses (wayVerdict g u) _ r (sym q ∙ p) in
       (refused-answer v _ r a _ p w e, rw w)
 
   -- the route is refused for room
-  pub route-tight : (k : ℕ) → wayVerdict g u ≡ Taken → k ≡ length (route (treeOf g) u) → (v : Verdict) (r : Refusal) (a : Answer) → v ≡ refuseIf (ltb (length row) k) NoRoom 0 → v ≡ Refused r → a ≡ answerIf v 0 → (a ≡ routeAnswer g u row) × (row ≡ routeRow g u row)
+  pub route-tight :
+      (k : ℕ)
+      → wayVerdict g u ≡ Taken → k ≡ length (route (treeOf g) u) → (v : Verdict) (r : Refusal) (a : Answer)
+      → v ≡ refuseIf (ltb (length row) k) NoRoom 0 → v ≡ Refused r → a ≡ answerIf v 0
+      → (a ≡ routeAnswer g u row) × (row ≡ routeRow g u row)
   unfolding routeAnswer routeRow routeVerdict
   route-tight k t l v r a q p e =
       let w = head-passes (wayVerdict g u) _ t ∙ head-refuses _ [] r (sym (q ∙ ap (λ (j : ℕ). refuseIf (ltb (length row) j) NoRoom 0) l) ∙ p) in
       (refused-answer v _ r a _ p w e, rw w)
 
   -- the route is written
-  pub route-written : (k : ℕ) → wayVerdict g u ≡ Taken → k ≡ length (route (treeOf g) u) → (v : Verdict) → v ≡ refuseIf (ltb (length row) k) NoRoom 0 → v ≡ Taken → (d : ℕ) (after : List ℕ) → Routed (treeOf g) k u 0 row d after → (Is d ≡ routeAnswer g u row) × (after ≡ routeRow g u row)
+  pub route-written :
+      (k : ℕ)
+      → wayVerdict g u ≡ Taken → k ≡ length (route (treeOf g) u) → (v : Verdict)
+      → v ≡ refuseIf (ltb (length row) k) NoRoom 0 → v ≡ Taken → (d : ℕ) (after : List ℕ)
+      → Routed (treeOf g) k u 0 row d after → (Is d ≡ routeAnswer g u row) × (after ≡ routeRow g u row)
   unfolding routeAnswer routeRow routeVerdict
   route-written k t l v q p d after s =
-      let w = head-passes (wayVerdict g u) (refuseIf (ltb (length row) (length (route (treeOf g) u))) NoRoom 0 ∷ []) t ∙ only-one _ ∙ sym (q ∙ ap (λ (j : ℕ). refuseIf (ltb (length row) j) NoRoom 0) l) ∙ p in
+      let w =
+      head-passes (wayVerdict g u) (refuseIf (ltb (length row) (length (route (treeOf g) u))) NoRoom 0 ∷ []) t
+      ∙ only-one _ ∙ sym (q ∙ ap (λ (j : ℕ). refuseIf (ltb (length row) j) NoRoom 0) l) ∙ p in
       let z = routed-whole (treeOf g) u (way-taken g u t .2) k l row after d (fits-room (length row) k v q p) s in
       rw w (ap Is (z .0), z .1)
 
 module _ (g : Net) (u z : ℕ) where
-  pub ways-lost : (v : Verdict) (r : Refusal) (a : Answer) → v ≡ waysVerdict g u z → v ≡ Refused r → a ≡ answerIf v 0 → (a ≡ meetAnswer g u z) × (a ≡ apartAnswer g u z)
+  pub ways-lost :
+      (v : Verdict) (r : Refusal) (a : Answer)
+      → v ≡ waysVerdict g u z → v ≡ Refused r → a ≡ answerIf v 0 → (a ≡ meetAnswer g u z) × (a ≡ apartAnswer g u z)
   unfolding meetAnswer apartAnswer
   ways-lost v r a q p e = (refused-answer v _ r a _ p (sym q ∙ p) e, refused-answer v _ r a _ p (sym q ∙ p) e)
 
@@ -156,46 +173,78 @@ module _ (g : Net) (row : List ℕ) where
   unfolding distanceRow
   rows-refused v r q p = (q, rw (sym q ∙ p))
 
-  pub distances-filled : (v : Verdict) → v ≡ roomVerdict (g .nodes) (length row) → v ≡ Taken → (after : List ℕ) → after ≡ rowWith (dist (treeOf g)) (g .nodes) row → (Taken ≡ rowVerdict g row) × (after ≡ distanceRow g row)
+  pub distances-filled :
+      (v : Verdict)
+      → v ≡ roomVerdict (g .nodes) (length row) → v ≡ Taken → (after : List ℕ)
+      → after ≡ rowWith (dist (treeOf g)) (g .nodes) row → (Taken ≡ rowVerdict g row) × (after ≡ distanceRow g row)
   unfolding distanceRow
   distances-filled v q p after e = (sym p ∙ q, rw (sym q ∙ p) e)
 
 -- in rows: what a verdict that is taken gives the calls after it
 module _ (links parents : List ℕ) (search : Search) where
-  pub way-known : (u : ℕ) (v : Verdict) → v ≡ wayVerdict (netOf links parents search) u → v ≡ Taken → (length parents ≤ nodeLimit) × Home (treeOf (netOf links parents search)) u
-  unfolding netOf
-  way-known u v q p = let z = way-taken (netOf links parents search) u (sym q ∙ p) in (z .0, z .2)
+  abbrev g : Net
+  g = netOf links parents search
 
-  pub ways-known : (u z : ℕ) (v : Verdict) → v ≡ waysVerdict (netOf links parents search) u z → v ≡ Taken → (length parents ≤ nodeLimit) × Home (treeOf (netOf links parents search)) u × Home (treeOf (netOf links parents search)) z
+  pub way-known :
+      (u : ℕ) (v : Verdict)
+      → v ≡ wayVerdict g u → v ≡ Taken
+      → (length parents ≤ nodeLimit) × Home (treeOf g) u
+  unfolding netOf
+  way-known u v q p = let z = way-taken g u (sym q ∙ p) in (z .0, z .2)
+
+  pub ways-known :
+      (u z : ℕ) (v : Verdict)
+      → v ≡ waysVerdict g u z → v ≡ Taken
+      → (length parents ≤ nodeLimit)
+      × Home (treeOf g) u × Home (treeOf g) z
   ways-known u z v q p =
-      let y = ways-taken (netOf links parents search) u z (sym q ∙ p) in
+      let y = ways-taken g u z (sym q ∙ p) in
       let a = way-known u _ refl (y .0) in
       let b = way-known z _ refl (y .1) in
       (a .0, a .1, b .1)
 
   -- the hops of a route, and its nodes
-  pub nodes-known : (u : ℕ) → Home (treeOf (netOf links parents search)) u → (c : Climb) → Rooted (treeOf (netOf links parents search)) u c → (c .hops + 1 ≡ length (route (treeOf (netOf links parents search)) u)) × (c .hops + 1 ≤ length parents)
+  pub nodes-known :
+      (u : ℕ)
+      → Home (treeOf g) u → (c : Climb) → Rooted (treeOf g) u c
+      → (c .hops + 1 ≡ length (route (treeOf g) u)) × (c .hops + 1 ≤ length parents)
   unfolding treeOf netOf
   nodes-known u h c r =
-      let t = treeOf (netOf links parents search) in
+      let t = treeOf g in
       (omega (arith, r .hops-is, nodes-of t u h), omega (arith, r .hops-is, nodes-of t u h, route-length t u))
 
   -- the written part of the work row is the route of z
-  pub part-known : (z : ℕ) → Home (treeOf (netOf links parents search)) z → (c : Climb) → Rooted (treeOf (netOf links parents search)) z c → (row after : List ℕ) (r : ℕ) → c .hops + 1 ≤ length row → Routed (treeOf (netOf links parents search)) (c .hops + 1) z 0 row r after → take (c .hops + 1 - 0) after ≡ route (treeOf (netOf links parents search)) z
+  pub part-known :
+      (z : ℕ)
+      → Home (treeOf g) z → (c : Climb) → Rooted (treeOf g) z c
+      → (row after : List ℕ) (r : ℕ) → c .hops + 1 ≤ length row
+      → Routed (treeOf g) (c .hops + 1) z 0 row r after
+      → take (c .hops + 1 - 0) after ≡ route (treeOf g) z
   part-known z h c p row after r room s =
-      let t = treeOf (netOf links parents search) in
+      let t = treeOf g in
       let n = nodes-known z h c p .0 in
       let k : c .hops + 1 - 0 ≡ c .hops + 1 = omega arith in
       rw (k, routed-whole t z h (c .hops + 1) n row after r room s .1)
       (take-at (route t z) (drop (length (route t z)) row) (c .hops + 1) (sym n))
 
-  pub root-there : (z : ℕ) → Home (treeOf (netOf links parents search)) z → (part : List ℕ) → part ≡ route (treeOf (netOf links parents search)) z → has (search .root) part ≡ true
-  root-there z h part q = rw q (subst (λ (v : ℕ). has v (route (treeOf (netOf links parents search)) z) ≡ true) (root-in links parents search) (way-root (treeOf (netOf links parents search)) (way (treeOf (netOf links parents search)) z h)))
+  pub root-there :
+      (z : ℕ)
+      → Home (treeOf g) z → (part : List ℕ)
+      → part ≡ route (treeOf g) z → has (search .root) part ≡ true
+  root-there z h part q =
+      rw q
+      (subst (λ (v : ℕ). has v (route (treeOf g) z) ≡ true) (root-in links parents search)
+      (way-root (treeOf g) (way (treeOf g) z h)))
 
   -- a tree distance is small
-  pub parted-small : ((i : ℕ) → getD links i 0 ≤ longest) → length parents ≤ nodeLimit → (u z : ℕ) → Home (treeOf (netOf links parents search)) u → (c e f : Climb) (row : List ℕ) → Onto (treeOf (netOf links parents search)) u row c → Rooted (treeOf (netOf links parents search)) z e → c .dist + (e .dist - f .dist) ≤ nodeLimit * longest + nodeLimit * longest
+  pub parted-small :
+      ((i : ℕ) → getD links i 0 ≤ longest)
+      → length parents ≤ nodeLimit → (u z : ℕ) → Home (treeOf g) u
+      → (c e f : Climb) (row : List ℕ) → Onto (treeOf g) u row c
+      → Rooted (treeOf g) z e
+      → c .dist + (e .dist - f .dist) ≤ nodeLimit * longest + nodeLimit * longest
   parted-small held small u z hu c e f row o p =
-      let t = treeOf (netOf links parents search) in
+      let t = treeOf g in
       let a = dist-small t longest (few links parents search held) u in
       let b = dist-small t longest (few links parents search held) z in
       let m = mul-le-mul-right longest (rw (← size-in links parents search) at small) in

@@ -18,7 +18,10 @@ use Rattle.tree.proofs.Ways.{Way, top, hop, Home, way, way-home, way-di
 use Rattle.tree.proofs.Meeting.{meet-one, meet-two, meet-none, meet-under}
 
 -- lengths of at most so much a node, added up
-shared : (a b c n most : ℕ) → a + b + 1 + c ≤ n → (w : ℕ) → w ≤ most → (p q r : ℕ) → p ≤ a * most → q ≤ b * most → r + most ≤ c * most → p + q + w + r + most ≤ n * most
+shared :
+    (a b c n most : ℕ)
+    → a + b + 1 + c ≤ n → (w : ℕ) → w ≤ most → (p q r : ℕ) → p ≤ a * most → q ≤ b * most → r + most ≤ c * most
+    → p + q + w + r + most ≤ n * most
 shared a b c n most h w k p q r i j l =
     omega
     (arith, mul-le-mul-right most h, add-mul (a + b + 1) c most, add-mul (a + b) 1 most, add-mul a b most, one-mul most)
@@ -42,7 +45,12 @@ module _ (t : Tree) (closed : (u : ℕ) → u < t .size → t .up u < t .size) w
   -- z is at most n - 2 hops below an x that is not the root
   pub hops-few : (x z : ℕ) → Home t z → under t x z ≡ true → (x ≡ t .root → ⊥) → z < t .size → hops t x z + 2 ≤ t .size
   hops-few x z h p far l =
-      omega (arith, hops-cut t z x h p, long (way t x (home-up t z x h p)), pigeons (t .size) (route t z) (way-distinct t (way t z h)) (way-below (way t z h) l))
+      omega (
+        arith,
+        hops-cut t z x h p,
+        long (way t x (home-up t z x h p)),
+        pigeons (t .size) (route t z) (way-distinct t (way t z h)) (way-below (way t z h) l),
+      )
     where
       long : {r : List ℕ} → Way t x r → 2 ≤ length r
       long (top e) = absurd (far (eqb-true x (t .root) e))
@@ -53,7 +61,8 @@ module _ (t : Tree) (closed : (u : ℕ) → u < t .size → t .up u < t .size) w
   around : ℕ → ℕ → ℕ → List ℕ
   around u z z′ = upTo (meet t u z) (route t u) ++ (upTo (meet t u z) (route t z) ++ (meet t u z ∷ route t z′))
 
-  module _ (x u z z′ : ℕ) (hu : Home t u) (hz : Home t z) (hz′ : Home t z′) (lu : u < t .size) (lz : z < t .size) (lz′ : z′ < t .size) (pu : under t x u ≡ true) (pz : under t x z ≡ true) (pz′ : under t x z′ ≡ false) where
+  module _ (x u z z′ : ℕ) (hu : Home t u) (hz : Home t z) (hz′ : Home t z′) (lu : u < t .size) (lz : z < t .size)
+      (lz′ : z′ < t .size) (pu : under t x u ≡ true) (pz : under t x z ≡ true) (pz′ : under t x z′ ≡ false) where
     -- a node of T(x) is not on the route of z'
     across : (y : ℕ) → under t x y ≡ true → under t y z′ ≡ false
     across y p = go (under t y z′) refl
@@ -92,7 +101,8 @@ module _ (t : Tree) (closed : (u : ℕ) → u < t .size → t .up u < t .size) w
     unfolding around has under
     around-below y m =
         let c = meet t u z in
-        either (has y (upTo c (route t u))) (has y (upTo c (route t z) ++ (c ∷ route t z′))) (sym (has-append y (upTo c (route t u)) (upTo c (route t z) ++ (c ∷ route t z′))) ∙ m)
+        either (has y (upTo c (route t u))) (has y (upTo c (route t z) ++ (c ∷ route t z′)))
+        (sym (has-append y (upTo c (route t u)) (upTo c (route t z) ++ (c ∷ route t z′))) ∙ m)
         (λ p. under-below u y hu lu (before-on t u c y p))
         (λ p n.
         either (has y (upTo c (route t z))) (has y (c ∷ route t z′)) (sym (has-append y (upTo c (route t z)) (c ∷ route t z′)) ∙ n)
@@ -106,8 +116,12 @@ module _ (t : Tree) (closed : (u : ℕ) → u < t .size → t .up u < t .size) w
     around-few : length (upTo (meet t u z) (route t u)) + length (upTo (meet t u z) (route t z)) + 1 + length (route t z′) ≤ t .size
     unfolding around
     around-few =
-        omega
-        (arith, pigeons (t .size) (around u z z′) around-distinct around-below, length-append (upTo (meet t u z) (route t u)) (upTo (meet t u z) (route t z) ++ (meet t u z ∷ route t z′)), length-append (upTo (meet t u z) (route t z)) (meet t u z ∷ route t z′))
+        omega (
+          arith,
+          pigeons (t .size) (around u z z′) around-distinct around-below,
+          length-append (upTo (meet t u z) (route t u)) (upTo (meet t u z) (route t z) ++ (meet t u z ∷ route t z′)),
+          length-append (upTo (meet t u z) (route t z)) (meet t u z ∷ route t z′),
+        )
 
     module _ (most : ℕ) (few : (v : ℕ) → t .rise v ≤ most) (flat : (v : ℕ) → eqb v (t .root) ≡ true → t .rise v ≡ 0) where
       dist-few : {v : ℕ} {r : List ℕ} → Way t v r → total (t .rise) r + most ≤ length r * most

@@ -210,7 +210,10 @@ module _ (t : Tree) where
     way-small few = total-bound (t .rise) longest few (upTo x (route t u))
 
     -- a step of the cursor
-    pub along-step : t .size ≤ nodeLimit → ((v : ℕ) → t .rise v ≤ longest) → (c : Climb) → c .node ≡ x → Along t u c → (d : Climb) → d ≡ stepped t c → Along t u d
+    pub along-step :
+        t .size ≤ nodeLimit
+        → ((v : ℕ) → t .rise v ≤ longest) → (c : Climb) → c .node ≡ x → Along t u c → (d : Climb) → d ≡ stepped t c
+        → Along t u d
     unfolding stepped
     along-step s few c e a d q =
         let far = way-small few in

@@ -50,7 +50,11 @@ module _ (links parents : List ℕ) (search : Search) where
       ascend-start c q = rising-start (treeIn links parents search) few (rise-flat _) (length parents) u c q
 
       module _ (k : ℕ) (c : Climb) (r : Rising (treeIn links parents search) (length parents) u k c) where
-        pub ascend-more : length parents ≤ nodeLimit → k < length parents → (c .node ≡ search .root → ⊥) → (d : Climb) → d ≡ stepped (treeIn links parents search) c → Rising (treeIn links parents search) (length parents) u (k + 1) d
+        pub ascend-more :
+            length parents ≤ nodeLimit
+            → k < length parents → (c .node ≡ search .root → ⊥) → (d : Climb)
+            → d ≡ stepped (treeIn links parents search) c
+            → Rising (treeIn links parents search) (length parents) u (k + 1) d
         ascend-more s l e d q = rising-more (treeIn links parents search) few (rise-flat _) (length parents) u k c r s l (off-root (c .node) e) d q
 
         pub ascend-root : k < length parents → c .node ≡ search .root → Rooted (treeIn links parents search) u c

@@ -25,6 +25,8 @@ rise-held g h v = go (eqb v (g .search .root)) refl
     go false e = rw e (h (g .parent v))
 
 -- rows of 16-bit numbers
-pub rise-small : (links parents : List ℕ) (search : Search) → ((i : ℕ) → getD links i 0 ≤ longest) → (v : ℕ) → treeOf (netOf links parents search) .rise v ≤ longest
+pub rise-small :
+    (links parents : List ℕ) (search : Search)
+    → ((i : ℕ) → getD links i 0 ≤ longest) → (v : ℕ) → treeOf (netOf links parents search) .rise v ≤ longest
 unfolding netOf
 rise-small links parents search h = rise-held (netOf links parents search) (length-held links h)

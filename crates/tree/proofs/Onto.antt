@@ -26,7 +26,8 @@ pub record Onward (t : Tree) (u : ℕ) (row : List ℕ) (c : Climb) : Type 0 whe
   pub along : Along t u c
   pub none : (y : ℕ) → has y (upTo (c .node) (route t u)) ≡ true → has y row ≡ false
 
-module _ (links parents : List ℕ) (search : Search) (held : (i : ℕ) → getD links i 0 ≤ longest) (small : length parents ≤ nodeLimit) (row : List ℕ) (u : ℕ) (hu : Home (treeIn links parents search) u) where
+module _ (links parents : List ℕ) (search : Search) (held : (i : ℕ) → getD links i 0 ≤ longest)
+    (small : length parents ≤ nodeLimit) (row : List ℕ) (u : ℕ) (hu : Home (treeIn links parents search) u) where
   pub onward-start : (c : Climb) → c ≡ begun u → Onward (treeIn links parents search) u row c
   unfolding begun has
   onward-start c q =

@@ -36,7 +36,12 @@ module _ (links parents : List ℕ) (search : Search) (at u : ℕ) (row : List �
       }
 
   -- a node is written, and the route of its parent after it
-  pub routed-more : (held : (i : ℕ) → getD links i 0 ≤ longest) (left : ℕ) → (left ≡ 0 → ⊥) → (u ≡ search .root → ⊥) → (w p r : ℕ) → w ≡ treeIn links parents search .rise u → p ≡ treeIn links parents search .up u → (after : List ℕ) → Routed (treeIn links parents search) (left - 1) p (at + 1) (set row at u) r after → Routed (treeIn links parents search) left u at row (w + r) after
+  pub routed-more :
+      (held : (i : ℕ) → getD links i 0 ≤ longest) (left : ℕ)
+      → (left ≡ 0 → ⊥) → (u ≡ search .root → ⊥) → (w p r : ℕ) → w ≡ treeIn links parents search .rise u
+      → p ≡ treeIn links parents search .up u → (after : List ℕ)
+      → Routed (treeIn links parents search) (left - 1) p (at + 1) (set row at u) r after
+      → Routed (treeIn links parents search) left u at row (w + r) after
   unfolding total
   routed-more held zero n e w p r q s after next = absurd (n refl)
   routed-more held (suc k) n e w p r q s after next =

@@ -53,7 +53,8 @@ returns c =
       links-filled _ _ held _ _ (linked .fill-links .ensures),
       parents-filled _ _ held _ _ (filled .fill-parents .ensures),
       entries-filled _ _ (start .pre) _
-          (network-is _ _ held _ _ (linked .fill-links .ensures) _ _ (filled .fill-parents .ensures) _ (parted .before .before .first-links .ensures) _ (parted .first .ensures))
+          (network-is _ _ held _ _ (linked .fill-links .ensures) _ _ (filled .fill-parents .ensures) _
+          (parted .before .before .first-links .ensures) _ (parted .first .ensures))
           _ (c .before .before .table .ensures .1),
     )
 

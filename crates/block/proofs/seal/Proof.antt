@@ -67,7 +67,9 @@ returns-3 c =
     let put-front = c .before .before .before .before .before .before .before .before .before .before .before .before .put-front in
     let bytes-of-record = c .before .before .before .before .before .before .before .before .before .before .before .before .before .before .bytes-of-record in
     let if2 = c .before .before .before .before .before .before .before .before .before .before .before .before .before .before .before .if2 in
-    let is-unheard = c .before .before .before .before .before .before .before .before .before .before .before .before .before .before .before .before .is-unheard in
+    let is-unheard =
+    c .before .before .before .before .before .before .before .before .before .before .before .before .before
+    .before .before .before .is-unheard in
     let if1 = c .before .before .before .before .before .before .before .before .before .before .before .before .before .before .before .before .before .if1 in
     seal-is _ _ _ _ (if1 .left) _ (is-unheard .ensures) (if2 .left) _ (bytes-of-record .ensures) _ (put-front .ensures) _ (clear .ensures) _
     (check-of .ensures) _ (c .before .before .put-number .ensures)

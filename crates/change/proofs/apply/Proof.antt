@@ -62,9 +62,16 @@ returns : tie.Need-returns
 returns c =
     let set-link = c .before .before .before .before .before .before .before .before .set-link in
     let flip-up2 = c .before .before .before .before .before .before .before .before .before .before .before .before .flip-up2 in
-    let flip-up = c .before .before .before .before .before .before .before .before .before .before .before .before .before .before .before .before .before .flip-up in
-    let link-at = c .before .before .before .before .before .before .before .before .before .before .before .before .before .before .before .before .before .before .before .before .before .link-at in
-    let pre = c .before .before .before .before .before .before .before .before .before .before .before .before .before .before .before .before .before .before .before .before .before .before .before .before .before .before .before .pre in
+    let flip-up =
+    c .before .before .before .before .before .before .before .before .before .before .before .before .before
+    .before .before .before .before .flip-up in
+    let link-at =
+    c .before .before .before .before .before .before .before .before .before .before .before .before .before
+    .before .before .before .before .before .before .before .before .link-at in
+    let pre =
+    c .before .before .before .before .before .before .before .before .before .before .before .before .before
+    .before .before .before .before .before .before .before .before .before .before .before .before .before
+    .before .pre in
     apply-is _ _ _ _ _ (pre) _ (link-at .ensures) _ (flip-up .ensures) _ (flip-up2 .ensures) _ (set-link .ensures) _ (c .before .before .refresh .ensures .1)
 
 pub apply-spec : {M : Type 1} → statement M

@@ -99,7 +99,9 @@ breaks-short-requires c κs =
     let links-in = c .before .before .before .before .before .before .before .before .before .before .before .links-in in
     let enum-told = c .before .before .before .before .before .before .before .before .before .before .before .before .enum-told in
     let check-table = c .before .before .before .before .before .before .before .before .before .before .before .before .before .before .check-table in
-    let args = c .before .before .before .before .before .before .before .before .before .before .before .before .before .before .before .before .before .before .before .args in (
+    let args =
+    c .before .before .before .before .before .before .before .before .before .before .before .before .before
+    .before .before .before .before .before .before .args in (
       table-sound _ _ _ (check-table .ensures) (enum-told .given .1),
       link-there _ _ _ _ (args .change) _ (check-table .ensures) (enum-told .given .1)
           _ (links-in .ensures) _ (refuse-if .ensures) (enum-told3 .given .1) _ (bad-mark .ensures) _ (refuse-if2 .ensures),
@@ -119,7 +121,9 @@ returns-5 c =
     let refuse-if = c .before .before .before .before .before .before .before .before .before .before .before .before .refuse-if in
     let links-in = c .before .before .before .before .before .before .before .before .before .before .before .before .before .links-in in
     let enum-told = c .before .before .before .before .before .before .before .before .before .before .before .before .before .before .enum-told in
-    let check-table = c .before .before .before .before .before .before .before .before .before .before .before .before .before .before .before .before .check-table in
+    let check-table =
+    c .before .before .before .before .before .before .before .before .before .before .before .before .before
+    .before .before .before .check-table in
     fifth-decides _ _ _ _ _ _ (check-table .ensures) (enum-told .given .1) _ (links-in .ensures) _ (refuse-if .ensures) (enum-told3 .given .1) _
     (bad-mark .ensures) _ (refuse-if2 .ensures) (enum-told5 .given .1) _ (is-parent .ensures) _ (refuse-if3 .ensures)
     (c .before .before .enum-told7 .given .1) _ (c .before .breaks-short .ensures) _ (c .refuse-if4 .ensures)

@@ -60,7 +60,9 @@ returns-2 c =
     let put-four = c .before .before .before .before .before .before .put-four in
     let put-front = c .before .before .before .before .before .before .before .before .before .before .put-front in
     let if1 = c .before .before .before .before .before .before .before .before .before .before .before .before .before .before .before .if1 in
-    let has-room = c .before .before .before .before .before .before .before .before .before .before .before .before .before .before .before .before .has-room in
+    let has-room =
+    c .before .before .before .before .before .before .before .before .before .before .before .before .before
+    .before .before .before .has-room in
     put-is _ _ _ _ _ (has-room .ensures) (not-false _ (if1 .left)) _
     (entry-joined _ _ _ _ _ _ _ (put-front .ensures) (put-four .ensures) (c .before .before .put-costs .ensures))
 

@@ -69,7 +69,9 @@ offer-at-requires c κs =
 
 step-side-requires : tie.Need-step-side-requires Inv-loop μ-loop
 step-side-requires c κs =
-    let pre = c .before .before .before .before .before .before .before .before .before .before .before .before .before .before .before .before .before .before .before .before .pre in
+    let pre =
+    c .before .before .before .before .before .before .before .before .before .before .before .before .before
+    .before .before .before .before .before .before .before .pre in
     let turn = turn-at (c .before .before .before .before) in
     (pre .0, pre .1 .nears, pre .2, carrying turn, from-low turn, not-top _ _ _ turn)
 

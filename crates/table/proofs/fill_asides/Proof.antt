@@ -31,7 +31,9 @@ slice-aggregate-pass-2 c = search needs
 pass-requires-2 : tie.Need-pass-requires-2
 pass-requires-2 c κs =
     let pass = c .before .before .before .before .before .pass in
-    let shared-slice-known = c .before .before .before .before .before .before .before .before .before .before .before .before .before .before .shared-slice-known in
+    let shared-slice-known =
+    c .before .before .before .before .before .before .before .before .before .before .before .before .before
+    .before .shared-slice-known in
     let pre = c .before .before .before .before .before .before .before .before .before .before .before .before .before .before .before .pre in
     (pre .0, pre .1, omega (arith, small _ _ _ (pre .0) (λ i. omega (arith, shared-slice-known .given i))), omega (arith, pre .2 .room, pass .ensures .size))
 
@@ -43,8 +45,12 @@ returns c =
     let pass2 = c .before .before .before .pass2 in
     let pass = c .before .before .before .before .before .before .before .before .before .pass in
     let distances = c .before .before .before .before .before .before .before .before .before .before .before .before .before .distances in
-    let shared-slice-known = c .before .before .before .before .before .before .before .before .before .before .before .before .before .before .before .before .before .before .shared-slice-known in
-    let pre = c .before .before .before .before .before .before .before .before .before .before .before .before .before .before .before .before .before .before .before .pre in
+    let shared-slice-known =
+    c .before .before .before .before .before .before .before .before .before .before .before .before .before
+    .before .before .before .before .before .shared-slice-known in
+    let pre =
+    c .before .before .before .before .before .before .before .before .before .before .before .before .before
+    .before .before .before .before .before .before .pre in
     asides-are _ _ _ (pre .0) _ _ _ _ _ _ (first-row _ _ _ (pre .0) _ _ refl (distances .ensures .1))
     (λ x l. getD-replicate nodeLimit x 0 0 (omega (arith, small _ _ _ (pre .0) (λ i. omega (arith, shared-slice-known .given i))))) (pre .2)
     (pass .ensures) (pass2 .ensures)

@@ -47,8 +47,12 @@ loop-again c =
     let fold-up = c .before .before .before .before .before .before .fold-up in
     let loop-test = c .before .before .before .before .before .before .before .before .before .before .before .loop-test in
     let loop = c .before .before .before .before .before .before .before .before .before .before .before .before .loop in
-    let shared-slice-known = c .before .before .before .before .before .before .before .before .before .before .before .before .before .before .before .before .before .before .shared-slice-known in
-    let pre = c .before .before .before .before .before .before .before .before .before .before .before .before .before .before .before .before .before .before .before .pre in
+    let shared-slice-known =
+    c .before .before .before .before .before .before .before .before .before .before .before .before .before
+    .before .before .before .before .before .shared-slice-known in
+    let pre =
+    c .before .before .before .before .before .before .before .before .before .before .before .before .before
+    .before .before .before .before .before .before .pre in
     tally-more _ _ _ _ _ _ _ _ _ _ _ _ _ (loop .inv) (loop-test .taken) (fold-up .ensures)
     (counted-more _ _ _ (pre .0) (λ i. omega (arith, shared-slice-known .given i)) _ (pre .1) _ _ _ _ (loop .inv .is) (loop-test .taken) _ _ _
     (fold-up .ensures))

@@ -36,7 +36,9 @@ loop-less c =
     let fold-at = c .before .before .before .before .before .before .before .fold-at in
     let if1 = c .before .before .before .before .before .before .before .before .before .before .before .if1 in
     let loop = c .before .before .before .before .before .before .before .before .before .before .before .before .before .loop in
-    let pre = c .before .before .before .before .before .before .before .before .before .before .before .before .before .before .before .before .before .before .before .pre in
+    let pre =
+    c .before .before .before .before .before .before .before .before .before .before .before .before .before
+    .before .before .before .before .before .before .pre in
     folding-less _ _ _ (pre .0) _ _ _ _ _ (pre .1) _ _ _ _ (loop .inv) _ _ _ (fold-at .ensures) (if1 .taken) _ (c .up .ensures)
 
 loop-again : tie.Need-loop-again Inv-loop μ-loop
@@ -44,7 +46,9 @@ loop-again c =
     let fold-at = c .before .before .before .before .before .before .before .fold-at in
     let if1 = c .before .before .before .before .before .before .before .before .before .before .before .if1 in
     let loop = c .before .before .before .before .before .before .before .before .before .before .before .before .before .loop in
-    let pre = c .before .before .before .before .before .before .before .before .before .before .before .before .before .before .before .before .before .before .before .pre in
+    let pre =
+    c .before .before .before .before .before .before .before .before .before .before .before .before .before
+    .before .before .before .before .before .before .pre in
     folding-more _ _ _ (pre .0) _ _ _ _ _ (pre .1) _ _ _ _ (loop .inv) _ _ _ (fold-at .ensures) (if1 .taken) _ (c .up .ensures)
 
 fold-at-requires-2 : tie.Need-fold-at-requires-2 Inv-loop μ-loop
@@ -67,7 +71,9 @@ returns c =
     let fold-at2 = c .before .before .before .before .before .before .fold-at2 in
     let if1 = c .before .before .before .before .before .before .before .before .before .before .if1 in
     let loop = c .before .before .before .before .before .before .before .before .before .before .before .before .loop in
-    let pre = c .before .before .before .before .before .before .before .before .before .before .before .before .before .before .before .before .before .before .pre in
+    let pre =
+    c .before .before .before .before .before .before .before .before .before .before .before .before .before
+    .before .before .before .before .before .pre in
     folding-end _ _ _ (pre .0) _ _ _ _ _ (pre .1) _ _ _ _ (loop .inv) _ _ _ (fold-at2 .ensures) (if1 .left)
 
 pub fold-up-spec : {M : Type 1} → statement M

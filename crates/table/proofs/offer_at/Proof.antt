@@ -38,8 +38,12 @@ returns-2 c =
     let costs-of = c .before .before .before .before .before .before .before .before .costs-of in
     let if1 = c .before .before .before .before .before .before .before .before .before .if1 in
     let wide-at = c .before .before .before .before .before .before .before .before .before .before .wide-at in
-    let shared-slice-known = c .before .before .before .before .before .before .before .before .before .before .before .before .before .before .before .before .before .before .before .shared-slice-known in
-    let pre = c .before .before .before .before .before .before .before .before .before .before .before .before .before .before .before .before .before .before .before .before .pre in
+    let shared-slice-known =
+    c .before .before .before .before .before .before .before .before .before .before .before .before .before
+    .before .before .before .before .before .before .shared-slice-known in
+    let pre =
+    c .before .before .before .before .before .before .before .before .before .before .before .before .before
+    .before .before .before .before .before .before .before .pre in
     offered-one _ _ _ _ _ (pre .2) (x-low _ _ _ (pre .0) (λ i. omega (arith, shared-slice-known .given i)) _ _ _ _ (pre .1) _ (pre .2) (pre .3) _ _
     (pre .4)) _ _ (pre .4) (pre .5) _ (wide-at .ensures) (if1 .left) _ _ (pre .6) _ _ _ _ (entry-at .ensures) (is-within .ensures) (costs-of .ensures)
     (with-link .ensures) (c .before .before .put-entry .ensures)

@@ -45,7 +45,9 @@ cast-if3 c = search needs
 returns-3 : tie.Need-returns-3
 returns-3 c =
     let link-at = c .before .before .before .before .before .before .before .before .link-at in
-    let pre = c .before .before .before .before .before .before .before .before .before .before .before .before .before .before .before .before .before .before .before .pre in
+    let pre =
+    c .before .before .before .before .before .before .before .before .before .before .before .before .before
+    .before .before .before .before .before .before .pre in
     skip-second _ _ _ (pre .0) _ (pre .5) _ (link-at .ensures) _ _ _ _ (c .before .parent-of2 .ensures) (c .if3 .taken)
 
 wide-at-requires : tie.Need-wide-at-requires
@@ -57,8 +59,12 @@ cast-k c = search needs
 add-k : tie.Need-add-k
 add-k c =
     let link-at = c .before .before .before .before .before .before .before .before .before .before .link-at in
-    let shared-slice-known = c .before .before .before .before .before .before .before .before .before .before .before .before .before .before .before .before .before .before .before .before .shared-slice-known in
-    let pre = c .before .before .before .before .before .before .before .before .before .before .before .before .before .before .before .before .before .before .before .before .before .pre in
+    let shared-slice-known =
+    c .before .before .before .before .before .before .before .before .before .before .before .before .before
+    .before .before .before .before .before .before .before .shared-slice-known in
+    let pre =
+    c .before .before .before .before .before .before .before .before .before .before .before .before .before
+    .before .before .before .before .before .before .before .before .pre in
     record {
       fits = omega (
         arith,
@@ -73,8 +79,12 @@ wide-at-requires-2 c κs = search needs
 add-k-2 : tie.Need-add-k-2
 add-k-2 c =
     let link-at = c .before .before .before .before .before .before .before .before .before .before .before .link-at in
-    let shared-slice-known = c .before .before .before .before .before .before .before .before .before .before .before .before .before .before .before .before .before .before .before .before .before .shared-slice-known in
-    let pre = c .before .before .before .before .before .before .before .before .before .before .before .before .before .before .before .before .before .before .before .before .before .before .pre in
+    let shared-slice-known =
+    c .before .before .before .before .before .before .before .before .before .before .before .before .before
+    .before .before .before .before .before .before .before .before .shared-slice-known in
+    let pre =
+    c .before .before .before .before .before .before .before .before .before .before .before .before .before
+    .before .before .before .before .before .before .before .before .before .pre in
     record {
       fits = k-fits _ _ _ (pre .0) _ (pre .5) _ (link-at .ensures) _ (pre .1 .nears) (λ i. omega (arith, shared-slice-known .given i)) _ _
           (c .before .before .wide-at .ensures) (c .wide-at2 .ensures);
@@ -83,13 +93,17 @@ add-k-2 c =
 begin-side-requires : tie.Need-begin-side-requires
 begin-side-requires c κs =
     let link-at = c .before .before .before .before .before .before .before .before .before .before .before .link-at in
-    let pre = c .before .before .before .before .before .before .before .before .before .before .before .before .before .before .before .before .before .before .before .before .before .before .pre in
+    let pre =
+    c .before .before .before .before .before .before .before .before .before .before .before .before .before
+    .before .before .before .before .before .before .before .before .before .pre in
     (pre .0, pre .1 .nears, pre .3, first-node _ _ _ (pre .0) _ (pre .5) _ (link-at .ensures))
 
 begin-side-requires-2 : tie.Need-begin-side-requires-2
 begin-side-requires-2 c κs =
     let link-at = c .before .before .before .before .before .before .before .before .before .before .before .before .link-at in
-    let pre = c .before .before .before .before .before .before .before .before .before .before .before .before .before .before .before .before .before .before .before .before .before .before .before .pre in
+    let pre =
+    c .before .before .before .before .before .before .before .before .before .before .before .before .before
+    .before .before .before .before .before .before .before .before .before .before .pre in
     (pre .0, pre .1 .nears, pre .3, second-node _ _ _ (pre .0) _ (pre .5) _ (link-at .ensures))
 
 climb-link-requires : tie.Need-climb-link-requires
@@ -103,8 +117,13 @@ climb-link-requires c κs =
     let if1 = c .before .before .before .before .before .before .before .before .before .before .before .before .if1 in
     let in-service = c .before .before .before .before .before .before .before .before .before .before .before .before .before .in-service in
     let link-at = c .before .before .before .before .before .before .before .before .before .before .before .before .before .before .link-at in
-    let shared-slice-known = c .before .before .before .before .before .before .before .before .before .before .before .before .before .before .before .before .before .before .before .before .before .before .before .before .shared-slice-known in
-    let pre = c .before .before .before .before .before .before .before .before .before .before .before .before .before .before .before .before .before .before .before .before .before .before .before .before .before .pre in (
+    let shared-slice-known =
+    c .before .before .before .before .before .before .before .before .before .before .before .before .before
+    .before .before .before .before .before .before .before .before .before .before .before .shared-slice-known
+    in
+    let pre =
+    c .before .before .before .before .before .before .before .before .before .before .before .before .before
+    .before .before .before .before .before .before .before .before .before .before .before .before .pre in (
       pre .0,
       pre .1,
       pre .2,

@@ -48,7 +48,9 @@ fill-bases-requires : tie.Need-fill-bases-requires
 fill-bases-requires c κs =
     let fold-all = c .before .before .before .before .before .before .before .before .fold-all in
     let distances = c .before .before .before .before .before .before .before .before .before .before .before .before .before .before .distances in
-    let pre = c .before .before .before .before .before .before .before .before .before .before .before .before .before .before .before .before .before .before .before .before .pre in (
+    let pre =
+    c .before .before .before .before .before .before .before .before .before .before .before .before .before
+    .before .before .before .before .before .before .before .pre in (
       pre .0,
       nears _ _ _ (pre .0) _ (distances .ensures .1),
       counts-all _ _ _ (pre .0) _ _ _ (fold-all .ensures),
@@ -67,12 +69,17 @@ slice-aggregate-fill-asides-2 c = search needs
 fill-asides-requires : tie.Need-fill-asides-requires
 fill-asides-requires c κs =
     let fold-all = c .before .before .before .before .before .before .before .before .before .before .before .before .before .fold-all in
-    let pre = c .before .before .before .before .before .before .before .before .before .before .before .before .before .before .before .before .before .before .before .before .before .before .before .before .before .pre in
+    let pre =
+    c .before .before .before .before .before .before .before .before .before .before .before .before .before
+    .before .before .before .before .before .before .before .before .before .before .before .before .pre in
     (pre .0, deeps-all _ _ _ (pre .0) _ _ _ (fold-all .ensures), zeros _ _ _ (pre .0))
 
 clear-marked-requires : tie.Need-clear-marked-requires
 clear-marked-requires c κs =
-    let pre = c .before .before .before .before .before .before .before .before .before .before .before .before .before .before .before .before .before .before .before .before .before .before .before .before .before .before .before .before .pre in
+    let pre =
+    c .before .before .before .before .before .before .before .before .before .before .before .before .before
+    .before .before .before .before .before .before .before .before .before .before .before .before .before
+    .before .before .pre in
     pre .1
 
 slice-aggregate-offer-links : tie.Need-slice-aggregate-offer-links
@@ -97,10 +104,21 @@ offer-links-requires : tie.Need-offer-links-requires
 offer-links-requires c κs =
     let clear-marked = c .before .before .before .before .before .before .before .before .before .clear-marked in
     let fill-asides = c .before .before .before .before .before .before .before .before .before .before .before .before .fill-asides in
-    let fill-bases = c .before .before .before .before .before .before .before .before .before .before .before .before .before .before .before .before .before .fill-bases in
-    let fold-all = c .before .before .before .before .before .before .before .before .before .before .before .before .before .before .before .before .before .before .before .before .before .before .before .before .before .before .fold-all in
-    let distances = c .before .before .before .before .before .before .before .before .before .before .before .before .before .before .before .before .before .before .before .before .before .before .before .before .before .before .before .before .before .before .before .before .distances in
-    let pre = c .before .before .before .before .before .before .before .before .before .before .before .before .before .before .before .before .before .before .before .before .before .before .before .before .before .before .before .before .before .before .before .before .before .before .before .before .before .before .pre in (
+    let fill-bases =
+    c .before .before .before .before .before .before .before .before .before .before .before .before .before
+    .before .before .before .before .fill-bases in
+    let fold-all =
+    c .before .before .before .before .before .before .before .before .before .before .before .before .before
+    .before .before .before .before .before .before .before .before .before .before .before .before .before
+    .fold-all in
+    let distances =
+    c .before .before .before .before .before .before .before .before .before .before .before .before .before
+    .before .before .before .before .before .before .before .before .before .before .before .before .before
+    .before .before .before .before .before .before .distances in
+    let pre =
+    c .before .before .before .before .before .before .before .before .before .before .before .before .before
+    .before .before .before .before .before .before .before .before .before .before .before .before .before
+    .before .before .before .before .before .before .before .before .before .before .before .before .pre in (
       pre .0,
       record {
         nears = nears _ _ _ (pre .0) _ (distances .ensures .1);
@@ -121,7 +139,11 @@ same-length c = search needs
 returns : tie.Need-returns
 returns c =
     let clear-marked = c .before .before .before .before .before .before .before .before .before .before .before .before .clear-marked in
-    let pre = c .before .before .before .before .before .before .before .before .before .before .before .before .before .before .before .before .before .before .before .before .before .before .before .before .before .before .before .before .before .before .before .before .before .before .before .before .before .before .before .before .before .pre in
+    let pre =
+    c .before .before .before .before .before .before .before .before .before .before .before .before .before
+    .before .before .before .before .before .before .before .before .before .before .before .before .before
+    .before .before .before .before .before .before .before .before .before .before .before .before .before
+    .before .before .pre in
     fresh-end _ _ _ (pre .0) _ _ _ _ (clear-marked .ensures) (c .before .before .offer-links .ensures)
 
 pub search-marked-spec : {M : Type 1} → statement M

@@ -25,7 +25,9 @@ byte-at-requires-2 : tie.Need-byte-at-requires-2 Inv-loop μ-loop
 byte-at-requires-2 c κs = search needs
 
 returns : tie.Need-returns Inv-loop μ-loop
-returns c = match-not _ _ _ _ (c .before .before .before .before .loop .inv) (c .before .before .before .loop-test .taken) _ _ (c .before .before .byte-at .ensures) (c .before .byte-at2 .ensures) (c .if1 .taken)
+returns c =
+    match-not _ _ _ _ (c .before .before .before .before .loop .inv) (c .before .before .before .loop-test .taken) _ _
+    (c .before .before .byte-at .ensures) (c .before .byte-at2 .ensures) (c .if1 .taken)
 
 add-i : tie.Need-add-i Inv-loop μ-loop
 add-i c = search needs
@@ -34,7 +36,9 @@ loop-less : tie.Need-loop-less Inv-loop μ-loop
 loop-less c = search needs
 
 loop-again : tie.Need-loop-again Inv-loop μ-loop
-loop-again c = match-more _ _ _ _ (c .before .before .before .before .loop .inv) _ _ (c .before .before .byte-at .ensures) (c .before .byte-at2 .ensures) (c .if1 .left)
+loop-again c =
+    match-more _ _ _ _ (c .before .before .before .before .loop .inv) _ _ (c .before .before .byte-at .ensures)
+    (c .before .byte-at2 .ensures) (c .if1 .left)
 
 returns-2 : tie.Need-returns-2 Inv-loop μ-loop
 returns-2 c = match-all _ _ _ _ (c .before .loop .inv) (c .loop-test .left)

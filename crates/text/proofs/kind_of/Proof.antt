@@ -42,7 +42,9 @@ returns-3 c =
     let is-named2 = c .before .before .before .before .is-named2 in
     let if1 = c .before .before .before .before .before .before .if1 in
     let is-named = c .before .before .before .before .before .before .before .is-named in
-    if-not _ _ _ _ (sym (is-named .ensures) ∙ if1 .left) (if-not _ _ _ _ (sym (is-named2 .ensures) ∙ if2 .left) (if-so _ _ _ (sym (c .before .is-named3 .ensures) ∙ c .if3 .taken)))
+    if-not _ _ _ _ (sym (is-named .ensures) ∙ if1 .left)
+    (if-not _ _ _ _ (sym (is-named2 .ensures) ∙ if2 .left)
+    (if-so _ _ _ (sym (c .before .is-named3 .ensures) ∙ c .if3 .taken)))
 
 slice-aggregate-is-named-4 : tie.Need-slice-aggregate-is-named-4
 slice-aggregate-is-named-4 c = search needs
@@ -59,7 +61,10 @@ returns-4 c =
     let is-named2 = c .before .before .before .before .before .before .before .is-named2 in
     let if1 = c .before .before .before .before .before .before .before .before .before .if1 in
     let is-named = c .before .before .before .before .before .before .before .before .before .before .is-named in
-    if-not _ _ _ _ (sym (is-named .ensures) ∙ if1 .left) (if-not _ _ _ _ (sym (is-named2 .ensures) ∙ if2 .left) (if-not _ _ _ _ (sym (is-named3 .ensures) ∙ if3 .left) (if-so _ _ _ (sym (c .before .is-named4 .ensures) ∙ c .if4 .taken))))
+    if-not _ _ _ _ (sym (is-named .ensures) ∙ if1 .left)
+    (if-not _ _ _ _ (sym (is-named2 .ensures) ∙ if2 .left)
+    (if-not _ _ _ _ (sym (is-named3 .ensures) ∙ if3 .left)
+    (if-so _ _ _ (sym (c .before .is-named4 .ensures) ∙ c .if4 .taken))))
 
 returns-5 : tie.Need-returns-5
 unfolding kindOf
@@ -70,7 +75,10 @@ returns-5 c =
     let is-named2 = c .before .before .before .before .before .before .before .is-named2 in
     let if1 = c .before .before .before .before .before .before .before .before .before .if1 in
     let is-named = c .before .before .before .before .before .before .before .before .before .before .is-named in
-    if-not _ _ _ _ (sym (is-named .ensures) ∙ if1 .left) (if-not _ _ _ _ (sym (is-named2 .ensures) ∙ if2 .left) (if-not _ _ _ _ (sym (is-named3 .ensures) ∙ if3 .left) (if-not _ _ _ _ (sym (c .before .is-named4 .ensures) ∙ c .if4 .left) (refl))))
+    if-not _ _ _ _ (sym (is-named .ensures) ∙ if1 .left)
+    (if-not _ _ _ _ (sym (is-named2 .ensures) ∙ if2 .left)
+    (if-not _ _ _ _ (sym (is-named3 .ensures) ∙ if3 .left)
+    (if-not _ _ _ _ (sym (c .before .is-named4 .ensures) ∙ c .if4 .left) (refl))))
 
 pub kind-of-spec : {M : Type 1} → statement M
 kind-of-spec =

@@ -27,7 +27,8 @@ unfolding lineEnd
 returns c =
     let loop = c .before .before .before .loop in
     let args = c .before .before .before .before .before .args in
-    scan-found _ _ _ _ (loop .inv) (c .before .before .loop-test .taken) (eq-eqb (byteAt (args .text .now) (loop .i)) newline (sym (c .before .byte-at .ensures) ∙ c .if1 .taken))
+    scan-found _ _ _ _ (loop .inv) (c .before .before .loop-test .taken)
+    (eq-eqb (byteAt (args .text .now) (loop .i)) newline (sym (c .before .byte-at .ensures) ∙ c .if1 .taken))
 
 add-i : tie.Need-add-i Inv-loop μ-loop
 add-i c = search needs
@@ -39,7 +40,8 @@ loop-again : tie.Need-loop-again Inv-loop μ-loop
 loop-again c =
     let loop = c .before .before .before .loop in
     let args = c .before .before .before .before .before .args in
-    scan-more _ _ _ _ (loop .inv) (c .before .before .loop-test .taken) (ne-eqb (byteAt (args .text .now) (loop .i)) newline (λ h. c .if1 .left (c .before .byte-at .ensures ∙ h)))
+    scan-more _ _ _ _ (loop .inv) (c .before .before .loop-test .taken)
+    (ne-eqb (byteAt (args .text .now) (loop .i)) newline (λ h. c .if1 .left (c .before .byte-at .ensures ∙ h)))
 
 returns-2 : tie.Need-returns-2 Inv-loop μ-loop
 unfolding lineEnd

@@ -33,7 +33,9 @@ returns c =
     let next3 = c .before .before .before .before .next3 in
     let next2 = c .before .before .before .before .before .next2 in
     let next = c .before .before .before .before .before .before .next in
-    line-is _ _ _ _ _ _ _ _ _ _ _ _ _ _ _ _ (next .ensures .0) (next .ensures .1) (next2 .ensures .0) (next2 .ensures .1) (next3 .ensures .0) (next3 .ensures .1) (next4 .ensures .0) (next4 .ensures .1) (next5 .ensures .0) (next5 .ensures .1) (next6 .ensures .0) (next6 .ensures .1) (c .next7 .ensures .0)
+    line-is _ _ _ _ _ _ _ _ _ _ _ _ _ _ _ _ (next .ensures .0) (next .ensures .1) (next2 .ensures .0)
+    (next2 .ensures .1) (next3 .ensures .0) (next3 .ensures .1) (next4 .ensures .0) (next4 .ensures .1)
+    (next5 .ensures .0) (next5 .ensures .1) (next6 .ensures .0) (next6 .ensures .1) (c .next7 .ensures .0)
 
 pub line-of-spec : {M : Type 1} → statement M
 line-of-spec =

@@ -42,7 +42,9 @@ returns-3 c =
     let is-named2 = c .before .before .before .before .is-named2 in
     let if1 = c .before .before .before .before .before .before .if1 in
     let is-named = c .before .before .before .before .before .before .before .is-named in
-    if-not _ _ _ _ (sym (is-named .ensures) ∙ if1 .left) (if-not _ _ _ _ (sym (is-named2 .ensures) ∙ if2 .left) (if-so _ _ _ (sym (c .before .is-named3 .ensures) ∙ c .if3 .taken)))
+    if-not _ _ _ _ (sym (is-named .ensures) ∙ if1 .left)
+    (if-not _ _ _ _ (sym (is-named2 .ensures) ∙ if2 .left)
+    (if-so _ _ _ (sym (c .before .is-named3 .ensures) ∙ c .if3 .taken)))
 
 kind-of-requires : tie.Need-kind-of-requires
 kind-of-requires c κs = search needs
@@ -54,7 +56,9 @@ returns-4 c =
     let is-named2 = c .before .before .before .before .before .is-named2 in
     let if1 = c .before .before .before .before .before .before .before .if1 in
     let is-named = c .before .before .before .before .before .before .before .before .is-named in
-    if-not _ _ _ _ (sym (is-named .ensures) ∙ if1 .left) (if-not _ _ _ _ (sym (is-named2 .ensures) ∙ if2 .left) (if-not _ _ _ _ (sym (c .before .before .is-named3 .ensures) ∙ c .before .if3 .left) (c .kind-of .ensures)))
+    if-not _ _ _ _ (sym (is-named .ensures) ∙ if1 .left)
+    (if-not _ _ _ _ (sym (is-named2 .ensures) ∙ if2 .left)
+    (if-not _ _ _ _ (sym (c .before .before .is-named3 .ensures) ∙ c .before .if3 .left) (c .kind-of .ensures)))
 
 pub name-of-spec : {M : Type 1} → statement M
 name-of-spec =

@@ -16,7 +16,21 @@ value-of-requires c κs = search needs
 
 returns : tie.Need-returns
 unfolding nextValue nextEnd
-returns c = (c .value-of .ensures ∙ (ap (valueOf (c .before .before .before .before .args .text .now) (c .before .before .word-from .result)) (c .before .word-to .ensures) ∙ ap (λ f. valueOf (c .before .before .before .before .args .text .now) f (wordTo (c .before .before .before .before .args .text .now) f (c .before .before .before .before .args .end))) (c .before .before .word-from .ensures)), c .before .word-to .ensures ∙ ap (λ f. wordTo (c .before .before .before .before .args .text .now) f (c .before .before .before .before .args .end)) (c .before .before .word-from .ensures))
+returns c = (
+  c .value-of .ensures
+      ∙ (ap (valueOf (c .before .before .before .before .args .text .now) (c .before .before .word-from .result))
+      (c .before .word-to .ensures)
+      ∙ ap
+      (λ f. valueOf (c .before .before .before .before .args .text .now) f
+      (wordTo (c .before .before .before .before .args .text .now) f
+      (c .before .before .before .before .args .end)))
+      (c .before .before .word-from .ensures)),
+  c .before .word-to .ensures
+      ∙ ap
+      (λ f. wordTo (c .before .before .before .before .args .text .now) f
+      (c .before .before .before .before .args .end))
+      (c .before .before .word-from .ensures),
+)
 
 pub next-spec : {M : Type 1} → statement M
 next-spec = tie.close (tie.spec word-from-requires word-to-requires value-of-requires returns)

@@ -29,7 +29,9 @@ loop-less : tie.Need-loop-less Inv-loop μ-loop
 loop-less c = search needs
 
 loop-again : tie.Need-loop-again Inv-loop μ-loop
-loop-again c = spell-more _ _ _ _ _ (c .before .before .before .loop .inv) (c .before .before .loop-test .taken) _ (c .with-digit .ensures ∙ ap (withDigit (c .before .before .before .loop .value)) (c .before .byte-at .ensures))
+loop-again c =
+    spell-more _ _ _ _ _ (c .before .before .before .loop .inv) (c .before .before .loop-test .taken) _
+    (c .with-digit .ensures ∙ ap (withDigit (c .before .before .before .loop .value)) (c .before .byte-at .ensures))
 
 returns : tie.Need-returns Inv-loop μ-loop
 returns c = spell-done _ _ _ _ _ (c .before .loop .inv) (c .loop-test .left)

@@ -17,7 +17,12 @@ returns-2 c = rw (le-leb (c .before .before .args .value) mostNumber (omega arit
 
 returns-3 : tie.Need-returns-3
 unfolding withDigit
-returns-3 c = rw (le-leb (c .before .before .before .args .value) mostNumber (omega arith), le-leb 48 (c .before .before .before .args .byte) (omega arith), lt-leb (c .before .before .before .args .byte) 57 (omega arith))
+returns-3 c =
+    rw (
+      le-leb (c .before .before .before .args .value) mostNumber (omega arith),
+      le-leb 48 (c .before .before .before .args .byte) (omega arith),
+      lt-leb (c .before .before .before .args .byte) 57 (omega arith),
+    )
 
 mul-longer : tie.Need-mul-longer
 mul-longer c = search needs
@@ -30,11 +35,27 @@ add-longer c = search needs
 
 returns-4 : tie.Need-returns-4
 unfolding withDigit
-returns-4 c = rw (le-leb (c .before .before .before .before .args .value) mostNumber (omega arith), le-leb 48 (c .before .before .before .before .args .byte) (omega arith), le-leb (c .before .before .before .before .args .byte) 57 (omega arith), lt-leb (c .before .before .before .before .args .value * 10 + (c .before .before .before .before .args .byte - 48)) mostNumber (omega arith))
+returns-4 c =
+    rw (
+      le-leb (c .before .before .before .before .args .value) mostNumber (omega arith),
+      le-leb 48 (c .before .before .before .before .args .byte) (omega arith),
+      le-leb (c .before .before .before .before .args .byte) 57 (omega arith),
+      lt-leb
+          (c .before .before .before .before .args .value * 10 + (c .before .before .before .before .args .byte - 48))
+          mostNumber (omega arith),
+    )
 
 returns-5 : tie.Need-returns-5
 unfolding withDigit
-returns-5 c = rw (le-leb (c .before .before .before .before .args .value) mostNumber (omega arith), le-leb 48 (c .before .before .before .before .args .byte) (omega arith), le-leb (c .before .before .before .before .args .byte) 57 (omega arith), le-leb (c .before .before .before .before .args .value * 10 + (c .before .before .before .before .args .byte - 48)) mostNumber (omega arith))
+returns-5 c =
+    rw (
+      le-leb (c .before .before .before .before .args .value) mostNumber (omega arith),
+      le-leb 48 (c .before .before .before .before .args .byte) (omega arith),
+      le-leb (c .before .before .before .before .args .byte) 57 (omega arith),
+      le-leb
+          (c .before .before .before .before .args .value * 10 + (c .before .before .before .before .args .byte - 48))
+          mostNumber (omega arith),
+    )
 
 pub with-digit-spec : {M : Type 1} → statement M
 with-digit-spec =

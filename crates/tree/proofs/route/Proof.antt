@@ -29,7 +29,9 @@ to-root-requires c κs = way-known _ _ _ _ _ (c .before .before .check-way .ensu
 add-nodes : tie.Need-add-nodes
 add-nodes c =
     let check-way = c .before .before .before .before .check-way in
-    let w = way-known _ _ _ _ _ (check-way .ensures) (c .before .before .enum-told .given .1) in omega (arith, nodes-known _ _ _ _ (w .1) _ (c .before .to-root .ensures) .1)
+    let w =
+    way-known _ _ _ _ _ (check-way .ensures) (c .before .before .enum-told .given .1) in omega
+    (arith, nodes-known _ _ _ _ (w .1) _ (c .before .to-root .ensures) .1)
 
 refuse-if-requires : tie.Need-refuse-if-requires
 refuse-if-requires c κs = search needs
@@ -49,7 +51,10 @@ returns-2 c =
     let to-root = c .before .before .before .before .before .to-root in
     let enum-told = c .before .before .before .before .before .before .enum-told in
     let check-way = c .before .before .before .before .before .before .before .before .check-way in
-    let w = way-known _ _ _ _ _ (check-way .ensures) (enum-told .given .1) in route-tight _ _ _ _ (sym (check-way .ensures) ∙ enum-told .given .1) (nodes-known _ _ _ _ (w .1) _ (to-root .ensures) .0) _ _ _ (refuse-if .ensures) (c .before .enum-told4 .given .1) (c .no-answer2 .ensures)
+    let w =
+    way-known _ _ _ _ _ (check-way .ensures) (enum-told .given .1) in route-tight _ _ _ _
+    (sym (check-way .ensures) ∙ enum-told .given .1) (nodes-known _ _ _ _ (w .1) _ (to-root .ensures) .0) _ _ _
+    (refuse-if .ensures) (c .before .enum-told4 .given .1) (c .no-answer2 .ensures)
 
 write-route-requires : tie.Need-write-route-requires
 write-route-requires c κs =
@@ -58,7 +63,16 @@ write-route-requires c κs =
     let enum-told = c .before .before .before .before .before .before .enum-told in
     let check-way = c .before .before .before .before .before .before .before .before .check-way in
     let args = c .before .before .before .before .before .before .before .before .before .before .before .before .args in
-    let w = way-known _ _ _ _ _ (check-way .ensures) (enum-told .given .1) in let n = nodes-known _ _ _ _ (w .1) _ (to-root .ensures) in (omega (arith, n .1), omega (arith, fits-room (length (args .row .now)) (to-root .result .hops + 1) _ (refuse-if .ensures) (c .before .enum-told3 .given .1)))
+    let w =
+    way-known _ _ _ _ _ (check-way .ensures) (enum-told .given .1) in let n =
+    nodes-known _ _ _ _ (w .1) _ (to-root .ensures) in (
+      omega (arith, n .1),
+      omega (
+        arith,
+        fits-room (length (args .row .now)) (to-root .result .hops + 1) _ (refuse-if .ensures)
+            (c .before .enum-told3 .given .1),
+      ),
+    )
 
 same-length : tie.Need-same-length
 same-length c = search needs
@@ -70,7 +84,10 @@ returns-3 c =
     let to-root = c .before .before .before .before .before .before .before .before .to-root in
     let enum-told = c .before .before .before .before .before .before .before .before .before .enum-told in
     let check-way = c .before .before .before .before .before .before .before .before .before .before .before .check-way in
-    let w = way-known _ _ _ _ _ (check-way .ensures) (enum-told .given .1) in route-written _ _ _ _ (sym (check-way .ensures) ∙ enum-told .given .1) (nodes-known _ _ _ _ (w .1) _ (to-root .ensures) .0) _ (refuse-if .ensures) (enum-told3 .given .1) _ _ (c .before .before .write-route .ensures)
+    let w =
+    way-known _ _ _ _ _ (check-way .ensures) (enum-told .given .1) in route-written _ _ _ _
+    (sym (check-way .ensures) ∙ enum-told .given .1) (nodes-known _ _ _ _ (w .1) _ (to-root .ensures) .0) _
+    (refuse-if .ensures) (enum-told3 .given .1) _ _ (c .before .before .write-route .ensures)
 
 pub route-spec : {M : Type 1} → statement M
 route-spec =

@@ -39,7 +39,9 @@ sub-t10 c =
     let climb-to-meet = c .before .before .before .before .climb-to-meet in
     let enum-told = c .before .before .before .before .before .enum-told in
     let check-ways = c .before .before .before .before .before .before .before .check-ways in
-    let w = ways-known _ _ _ _ _ _ (check-ways .ensures) (enum-told .given .1) in onto-less _ _ _ (w .1) (w .2) _ (climb-to-meet .ensures) _ _ (to-root .ensures) (c .before .before .to-root2 .ensures)
+    let w =
+    ways-known _ _ _ _ _ _ (check-ways .ensures) (enum-told .given .1) in onto-less _ _ _ (w .1) (w .2) _
+    (climb-to-meet .ensures) _ _ (to-root .ensures) (c .before .before .to-root2 .ensures)
 
 add-t11 : tie.Need-add-t11
 add-t11 c =
@@ -49,7 +51,12 @@ add-t11 c =
     let enum-told = c .before .before .before .before .before .before .enum-told in
     let check-ways = c .before .before .before .before .before .before .before .before .check-ways in
     let shared-slice-known = c .before .before .before .before .before .before .before .before .before .before .shared-slice-known in
-    let w = ways-known _ _ _ _ _ _ (check-ways .ensures) (enum-told .given .1) in omega (arith, parted-small _ _ _ (λ i. omega (arith, shared-slice-known .given i)) (w .0) _ _ (w .1) _ _ (to-root2 .result) _ (climb-to-meet .ensures) (to-root .ensures))
+    let w =
+    ways-known _ _ _ _ _ _ (check-ways .ensures) (enum-told .given .1) in omega (
+      arith,
+      parted-small _ _ _ (λ i. omega (arith, shared-slice-known .given i)) (w .0) _ _ (w .1) _ _
+          (to-root2 .result) _ (climb-to-meet .ensures) (to-root .ensures),
+    )
 
 returns-2 : tie.Need-returns-2
 returns-2 c =
