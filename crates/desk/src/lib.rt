@@ -79,7 +79,14 @@ pub fn expected(name: &[u8], line: usize, text: &[u8]) -> bool
     false
 }
 
-// The same for text that ends with a number.
+// Says that a line has a carriage return with no line feed behind it.
+pub fn torn(name: &[u8], line: usize) -> bool
+    ensures { λ r. ⌜ r ≡ false ⌝ }
+{
+    expected(name, line, b"a line feed behind each carriage return")
+}
+
+// The same as `expected` for text that ends with a number.
 pub fn expected_number(name: &[u8], line: usize, text: &[u8], n: usize) -> bool
     ensures { λ r. ⌜ r ≡ false ⌝ }
 {
@@ -155,6 +162,28 @@ pub fn text_fits(name: &[u8], text: &[u8]) -> bool
         return true;
     }
     text_too_long(name)
+}
+
+// Says that a word of the command is no name.
+fn no_name(word: &[u8]) -> bool
+    ensures { λ r. ⌜ r ≡ false ⌝ }
+{
+    say(word);
+    say(b": expected a name of 1 to ");
+    say_number(Desk::NAME as u64);
+    say(b" bytes\n");
+    false
+}
+
+// Whether a word of the command, by the length that `os::arg` answered, is a name: it answers 0 of one that is empty or too long.
+// Where it is none, that is said of the word as the usage calls it.
+pub fn is_name(word: &[u8], size: usize) -> bool
+    ensures { λ r. ⌜ r ≡ leb 1 size ⌝ }
+{
+    if 1 <= size {
+        return true;
+    }
+    no_name(word)
 }
 
 // Reads once into the room from a place on, and answers what `libc::read` did: how many bytes, 0 at the file's end, or -1.
@@ -233,6 +262,13 @@ fn append(room: &mut [u8], at: usize, text: &[u8]) -> usize {
     at + text.len()
 }
 
+// Removes a file that gets no name; where it stays, that is said.
+fn remove(part: &[u8]) {
+    if os::unlink(part) != 0 {
+        complain(part, b"it could not be removed");
+    }
+}
+
 // Writes all of a new file and waits until it is on the disk; where that fails, it is said and the file is removed.
 fn fill_new(file: i32, part: &[u8], bytes: &[u8]) -> bool {
     if io::write_all(file, bytes) {
@@ -243,21 +279,28 @@ fn fill_new(file: i32, part: &[u8], bytes: &[u8]) -> bool {
     }
     os::fail(part);
     libc::close(file);
-    os::unlink(part);
+    remove(part);
     false
 }
 
-// Whether nothing stands under a name, no link that leads nowhere either. `readlink` does not follow the name's last part: where
-// there is nothing it fails with ENOENT, where there is something that is no link with EINVAL.
+// Whether nothing stands under a name, no link that leads nowhere either; where something does, or that cannot be seen, it is
+// said. `readlink` does not follow the name's last part: where there is nothing it fails with ENOENT, where there is something
+// that is no link with EINVAL.
 fn is_free(name: &[u8]) -> bool {
     let mut path = io::buffer();
     append(&mut path, 0, name);
     path[libc::PATH_MAX - 1] = 0;
     let mut text = [0u8; 1];
-    if libc::readlink(&path, &mut text) >= 0 {
-        return false;
+    if libc::readlink(&path, &mut text) < 0 {
+        if os::errno() == libc::ENOENT {
+            return true;
+        }
+        if os::errno() != libc::EINVAL {
+            os::fail(name);
+            return false;
+        }
     }
-    os::errno() == libc::ENOENT
+    complain(name, b"there is a file of this name")
 }
 
 // Where the last part of a name begins: behind its last `/`, or at 0 where it has none.
@@ -299,7 +342,7 @@ fn sync_name(name: &[u8]) -> bool {
 fn name_new(part: &[u8], name: &[u8]) -> bool {
     if os::rename(part, name) != 0 {
         os::fail(name);
-        os::unlink(part);
+        remove(part);
         return false;
     }
     if sync_name(name) {
@@ -313,7 +356,7 @@ fn print_and_name(part: &[u8], name: &[u8], out: &[u8], waits: usize) -> bool {
     if print(out, waits) {
         return name_new(part, name);
     }
-    os::unlink(part);
+    remove(part);
     false
 }
 
@@ -327,8 +370,8 @@ fn make(part: &[u8], name: &[u8], bytes: &[u8], out: &[u8], waits: usize) -> boo
     }
     if !is_free(name) {
         libc::close(file);
-        os::unlink(part);
-        return complain(name, b"there is a file of this name");
+        remove(part);
+        return false;
     }
     if fill_new(file, part, bytes) {
         return print_and_name(part, name, out, waits);

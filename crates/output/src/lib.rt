@@ -10,7 +10,7 @@ ghost use Rattle.io.specs.Digits.{glyph};
 ghost use Rattle.output.specs.Text.{placeFor, waits, Holds, hexOf, Numbered};
 use edition::Refusal;
 
-// Writes out what waits, so that nothing waits then. Every run ends with it.
+// Writes out what waits, so that nothing waits then. Whether all of it was written is not told.
 pub fn flush(out: &[u8], at: usize) -> usize
     ensures { λ r. ⌜ r ≡ 0 ⌝ }
 {

@@ -235,8 +235,11 @@ fn measure_of(word: &[u8]) -> Asked {
     Asked::Nothing
 }
 
-// Draws the file of a name by the measure of a word.
+// Draws the file of a name by the measure of a word, which has no bytes where it is too long for any name.
 fn run_by(name: &[u8], word: &[u8]) -> bool {
+    if word.len() == 0 {
+        return desk::complain(b"the measure", b"expected `sum`, `incr` or `max`");
+    }
     let Asked::By(measure) = measure_of(word) else {
         return desk::complain(word, b"expected `sum`, `incr` or `max`");
     };
@@ -246,15 +249,23 @@ fn run_by(name: &[u8], word: &[u8]) -> bool {
 fn main() {
     let mut first = [0u8; Desk::NAME];
     let mut second = [0u8; Desk::NAME];
+    let words = os::arg_count();
+    if words < 2 {
+        desk::usage(b"swapdot FILE [sum|incr|max]");
+        return;
+    }
+    if 3 < words {
+        desk::usage(b"swapdot FILE [sum|incr|max]");
+        return;
+    }
     let name = os::arg(1, &mut first);
     let word = os::arg(2, &mut second);
-    if os::arg_count() == 2 {
+    if !desk::is_name(b"FILE", name) {
+        return;
+    }
+    if words == 2 {
         run(&first[..name], Measure::Sum);
         return;
     }
-    if os::arg_count() == 3 {
-        run_by(&first[..name], &second[..word]);
-        return;
-    }
-    desk::usage(b"swapdot FILE [sum|incr|max]");
+    run_by(&first[..name], &second[..word]);
 }

@@ -323,6 +323,9 @@ fn take_text(from: &[u8], to: &[u8], text: &[u8], links: &mut [u16], parents: &m
     };
     let mut cursor = Cursor::begin(text);
     while cursor.at < text.len() {
+        if cursor.is_torn(text) {
+            return desk::torn(from, cursor.number);
+        }
         let step = cursor.next_line(text);
         told = take_line(step.line, told, links, parents);
         if told.lack != Lack::NOTHING {
@@ -361,5 +364,9 @@ fn main() {
     let mut second = [0u8; Desk::NAME];
     let from = os::arg(1, &mut first);
     let to = os::arg(2, &mut second);
-    run(&first[..from], &second[..to]);
+    if desk::is_name(b"TEXT", from) {
+        if desk::is_name(b"FILE", to) {
+            run(&first[..from], &second[..to]);
+        }
+    }
 }

@@ -19,7 +19,7 @@ use text::Line;
 use text::Word;
 
 // Bytes of the buffer that what is printed waits in: it holds the two longest lines of every node, 73 bytes each, so that
-// nothing is printed before the new file stands.
+// nothing is printed before all of the new file is written, and all of it before that gets its name.
 const OUT: usize = 2 * 80 * Memory::NODES;
 
 // Whether a word says `up` or `down`.
@@ -101,6 +101,9 @@ fn take_lines(
     }
     let mut cursor = Cursor::begin(text);
     while cursor.at < text.len() {
+        if cursor.is_torn(text) {
+            return desk::torn(name, cursor.number);
+        }
         let step = cursor.next_line(text);
         let line = step.line;
         if !take_line(name, cursor.number, line, links, parents, search, entries) {
@@ -308,5 +311,11 @@ fn main() {
     let from = os::arg(1, &mut first);
     let by = os::arg(2, &mut second);
     let to = os::arg(3, &mut third);
-    run(&first[..from], &second[..by], &third[..to]);
+    if desk::is_name(b"FILE", from) {
+        if desk::is_name(b"CORRECTIONS", by) {
+            if desk::is_name(b"NEW", to) {
+                run(&first[..from], &second[..by], &third[..to]);
+            }
+        }
+    }
 }

@@ -5,9 +5,9 @@ use mathlib.Core.List.{List}
 use Prim.Native.Nat.{ℕ, suc, _+_, _-_, _<_, _≤_}
 use native.Mathlib.Numerals.{add-one}
 use native.Mathlib.Omega.{arith}
-use lib.Dec.{eqb}
-use lib.ListN.{length, getD}
-use borrow.Author.Tests.{eq-eqb, ne-eqb}
+use lib.Dec.{eqb, leb}
+use lib.ListN.{length, getD, List·getD-eq-default}
+use borrow.Author.Tests.{eq-eqb, ne-eqb, leb-true, leb-false}
 use Rattle.rows.specs.Count.{someTo}
 use Rattle.rows.proofs.Best.{none-some, one-some}
 use Rattle.rows.proofs.Tests.{lastly}
@@ -31,6 +31,15 @@ seek-past p i k e = rw e
 pub seek-end : (p : ℕ → Bool) (i : ℕ) → seekFrom p i 0 ≡ i
 unfolding seekFrom
 seek-end p i = refl
+
+-- a place past the text has the end of a line, so one with another byte is in it
+pub other-within : (text : List ℕ) (i b : ℕ) → b ≡ byteAt text i → (b ≡ newline → ⊥) → i < length text
+unfolding byteAt
+other-within text i b e n = go (leb (length text) i) refl
+  where
+    go : (t : Bool) → leb (length text) i ≡ t → i < length text
+    go true h = absurd (n (e ∙ List·getD-eq-default text newline (leb-true (length text) i h)))
+    go false h = leb-false (length text) i h
 
 -- the first place that passes is not before i
 pub record Scanning (p : ℕ → Bool) (from stop i : ℕ) : Type 0 where

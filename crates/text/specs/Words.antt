@@ -2,7 +2,7 @@
 use mathlib.Core.Bool.{Bool, cond, not, _&&_, _||_}
 use mathlib.Core.List.{List, [], _∷_}
 use Prim.Native.Nat.{ℕ, zero, suc, _+_, _*_, _-_, min}
-use lib.Dec.{eqb, leb}
+use lib.Dec.{eqb, leb, ltb}
 use lib.ListN.{length, getD}
 use Rattle.edition.specs.Limits.{served, withdrawn}
 use Rattle.rows.specs.Count.{someTo, sumTo, onlyIf}
@@ -151,6 +151,13 @@ nextLine text c =
       line = lineOf text (c .at) end;
       next = record { at = min end (length text) + 1; number = min (c .number) (length text) + 1 };
     }
+
+-- Is the byte at a place a carriage return with no line feed behind it, and has the line of a place one, from there on?
+unfoldable pub isStray : List ℕ → ℕ → Bool
+isStray text i = eqb (byteAt text i) 13 && (eqb (i + 1) (length text) || not (eqb (byteAt text (i + 1)) newline))
+
+unfoldable pub isTorn : List ℕ → ℕ → Bool
+isTorn text at = let end = lineEnd text at in ltb (seekFrom (isStray text) at (end - at)) end
 
 -- The service mark that a word names.
 unfoldable pub markOf : ℕ → ℕ

@@ -6,9 +6,9 @@ ghost use Prim.Native.Nat.{_+_, _-_, _≤_, min};
 ghost use lib.Dec.{eqb};
 ghost use lib.ListN.{length, getD};
 ghost use Rattle.rows.specs.Count.{someTo};
-ghost use Rattle.text.specs.Words.{newline, byteAt, isBlank, isPast, lineEnd, wordFrom, wordTo};
+ghost use Rattle.text.specs.Words.{newline, byteAt, seekFrom, isBlank, isPast, lineEnd, wordFrom, wordTo};
 ghost use Rattle.text.specs.Words.{withDigit, numberFrom, isNamed, kindOf, nameOf, valueOf};
-ghost use Rattle.text.specs.Words.{nextValue, nextEnd, lineOf, firstLine, nextLine, markOf};
+ghost use Rattle.text.specs.Words.{nextValue, nextEnd, lineOf, firstLine, nextLine, isStray, isTorn, markOf};
 use edition::Edition;
 
 // A word of a line: its value, and where it ends.
@@ -288,6 +288,33 @@ fn line_of(text: &[u8], at: usize, end: usize) -> Line
     }
 }
 
+// Whether the byte at a place is a carriage return with no line feed behind it.
+fn is_stray(text: &[u8], i: usize) -> bool
+    ensures { λ r. ⌜ r ≡ isStray (now (text .entry)) i ⌝ }
+{
+    if byte_at(text, i) != b'\r' {
+        return false;
+    }
+    if i + 1 == text.len() {
+        return true;
+    }
+    byte_at(text, i + 1) != b'\n'
+}
+
+// The first place of such a byte before the line's end, or the line's end where there is none.
+fn stray_from(text: &[u8], at: usize, end: usize) -> usize
+    ensures { λ r. ⌜ r ≡ seekFrom (isStray (now (text .entry))) at (end - at) ⌝ }
+{
+    let mut i = at;
+    while i < end {
+        if is_stray(text, i) {
+            return i;
+        }
+        i += 1;
+    }
+    i
+}
+
 // The smaller of a number and the text's length.
 fn within(text: &[u8], n: usize) -> usize
     ensures { λ r. ⌜ (r ≤ length (now (text .entry))) × (r ≡ min n (length (now (text .entry)))) ⌝ }
@@ -307,6 +334,15 @@ impl Cursor {
             return Cursor { at: 3, number: 1 };
         }
         Cursor { at: 0, number: 1 }
+    }
+
+    // Whether the line has a carriage return with no line feed behind it. Such a text is of another system, which may have meant
+    // it for the end of a line, or was cut off.
+    pub fn is_torn(self, text: &[u8]) -> bool
+        ensures { λ r. ⌜ r ≡ isTorn (now (text .entry)) (self .at) ⌝ }
+    {
+        let end = line_end(text, self.at);
+        stray_from(text, self.at, end) < end
     }
 
     // What the line says, and the line behind it, which begins past the text where this is the last. The numbers go no further
