@@ -1,8 +1,8 @@
 -- What is known of a file that is accepted, and what the reader leaves in the lent rows. Assumes nothing.
-use mathlib.Core.Path.{_≡_, ap, _∙_}
+use mathlib.Core.Path.{_≡_, refl, ap, _∙_}
 use mathlib.Core.Bool.{false}
-use mathlib.Core.List.{List, _++_}
-use Prim.Native.Nat.{ℕ, _≤_}
+use mathlib.Core.List.{List, [], _++_}
+use Prim.Native.Nat.{ℕ, _<_, _≤_}
 use native.Mathlib.Omega.{arith}
 use lib.Dec.{ltb}
 use lib.ListN.{length, drop}
@@ -16,10 +16,12 @@ use Rattle.rows.proofs.Tests.{or3-false}
 use Rattle.entries.specs.Row.{entriesIn, pastEntries}
 use Rattle.network.specs.Network.{Net, linksIn, pastLinks}
 use Rattle.sound.specs.Sound.{netVerdict}
+use Rattle.sound.proofs.Sounds.{sound}
+use Rattle.sound.proofs.Holding.{root-in}
 use Rattle.table.specs.Table.{table, tableVerdict, tableRow}
 use Rattle.archive.specs.declared.Header.{Header}
 use Rattle.archive.specs.declared.ReadAnswer.the-variants.{Is, Not}
-use Rattle.archive.specs.Reader.{nodesRead, linksRead, headRead, linksHeld, parentsHeld, netRead, Rows, tight, headVerdict, restVerdict}
+use Rattle.archive.specs.Reader.{nodesRead, linksRead, headRead, linksHeld, parentsHeld, netRead, Rows, tooShort, headVerdict, restVerdict}
 use Rattle.archive.specs.Reader.{readVerdict, readAnswer, rowsRead}
 use Rattle.archive.specs.Work.{Blocked}
 use Rattle.archive.proofs.Reading.{nodes-read}
@@ -47,12 +49,12 @@ module _ (file : List ℕ) (rows : Rows) (t : readVerdict file rows ≡ Taken) w
   unfolding restVerdict
   accepted-sound = records-alone file head-ok ∙ head-taken _ _ (rest-taken _ _ (rest-taken _ _ rest-ok))
 
-  loose : tight (nodesRead file) (linksRead file) rows ≡ false
+  loose : tooShort (nodesRead file) (linksRead file) rows ≡ false
   unfolding restVerdict
   loose = if-taken _ NoRoom 0 (head-taken _ _ (rest-taken _ _ (rest-taken _ _ (rest-taken _ _ rest-ok))))
 
   rooms : (linksRead file ≤ linksIn (rows .links)) × (nodesRead file ≤ length (rows .parents)) × (nodesRead file ≤ entriesIn (rows .entries))
-  unfolding tight
+  unfolding tooShort
   rooms =
       let z =
       or3-false (ltb (linksIn (rows .links)) (linksRead file)) (ltb (length (rows .parents)) (nodesRead file))
@@ -115,3 +117,19 @@ module _ (file links parents entries : List ℕ) (v : Verdict) (is : v ≡ readV
       × (entries ≡ rowsRead file (record { links = links; parents = parents; entries = entries }) .entries)
   unfolding readAnswer rowsRead
   read-refused why t = (rw (← is, t), rw (← is, t), rw (← is, t), rw (← is, t))
+
+-- no file is taken where the rows are empty: a network has a node
+abbrev unlent : Rows
+unlent = record { links = []; parents = []; entries = [] }
+
+pub unlent-refused : (file : List ℕ) → (r : Refusal) × (readVerdict file (record { links = []; parents = []; entries = [] }) ≡ Refused r)
+unfolding headRead
+unlent-refused file = go (readVerdict file unlent) refl
+  where
+    go : (v : Verdict) → readVerdict file unlent ≡ v → (r : Refusal) × (readVerdict file unlent ≡ Refused r)
+    go Taken t =
+        let s = sound (netRead file) (accepted-sound file unlent t) in
+        let some : netRead file .search .root < netRead file .nodes = root-in (netRead file) s in
+        let room : nodesRead file ≤ 0 = parents-room file unlent t (headRead file) refl in
+        absurd (omega (arith, some, nodes-read file, room))
+    go (Refused r) t = (r, t)

@@ -18,8 +18,8 @@ use Rattle.rows.proofs.Refusing.{head-taken, rest-taken, if-taken, at-taken, to
 use Rattle.rows.proofs.Listed.{same-equal}
 use Rattle.swap.specs.Entry.{entry}
 use Rattle.block.specs.Block.{recordBytes, block, blockVerdict}
-use Rattle.block.proofs.Sizes.{heard-size}
-use Rattle.block.proofs.Whole.{taken-heard, block-only}
+use Rattle.block.proofs.Sizes.{such-size}
+use Rattle.block.proofs.Whole.{taken-such, block-only}
 use Rattle.record.specs.Record.{entryRecord}
 use Rattle.archive.specs.Parts.{linkBlocks, blockCount, partOf, partAt, linkPlace, entryPlace}
 use Rattle.archive.specs.Writer.{recordOf, blockOf, fileOf}
@@ -68,7 +68,7 @@ module _ (file : List ℕ) (bytes : (i : ℕ) → getD file i 0 < 256) where
       → r < used → f r ≡ take (recordBytes kind) (drop (i * blockBytes + frontBytes + r * recordBytes kind) file))
       → blockAt file i ≡ block kind i used (rowsTo f used)
   block-records kind i used f t h =
-      let fits = heard-size kind used (taken-heard kind i used (blockAt file i) t) in
+      let fits = such-size kind used (taken-such kind i used (blockAt file i) t) in
       block-only kind i used (blockAt file i) t (block-bytes i)
       ∙ ap (block kind i used)
       (sym (pieces (recordBytes kind) (drop frontBytes (blockAt file i)) used)
@@ -167,6 +167,13 @@ module _ (file : List ℕ) (bytes : (i : ℕ) → getD file i 0 < 256) where
         go true e b f = header-same e
         go false e true f = links-same e f
         go false e false f = entries-same e f
+
+  -- each stored entry of a file that is taken is the one worked out
+  pub accepted-fresh :
+      (rows : Rows)
+      → readVerdict file rows ≡ Taken → (x : ℕ) → x < nodesRead file
+      → take entryBytes (drop (entryPlace (linksRead file) x) file) ≡ entryRecord (netRead file .parent x) (entry (netRead file) x)
+  accepted-fresh rows h x l = whole rows h .fresh x l
 
   -- a file of bytes that is taken is what the writer makes of what was read
   pub accepted-is-written : (rows : Rows) → readVerdict file rows ≡ Taken → file ≡ fileOf (netRead file)

@@ -11,13 +11,13 @@ use borrow.Author.Tests.{eq-eqb}
 use Rattle.edition.specs.declared.Search.{Search}
 use Rattle.edition.specs.Limits.{noLink}
 use Rattle.edition.specs.Stored.{blockBytes, frontBytes, headerKind, linksKind}
-use Rattle.block.specs.Block.{unheard, block, sealed}
+use Rattle.block.specs.Block.{noSuchBlock, block, sealed}
 use Rattle.archive.specs.declared.Part.{Part}
 use Rattle.archive.specs.Parts.{blocksFor, blockCount, partAt}
 use Rattle.archive.specs.Work.{heldBytes, recordBy, laid, Held, Tabled}
 use Rattle.archive.specs.Writer.{recordOf, blockOf}
 use Rattle.numbers.specs.Bytes.{wordMost}
-use Rattle.archive.proofs.Parting.{Fit, held-room, part-fit, part-heard, Stands, part-stands}
+use Rattle.archive.proofs.Parting.{Fit, held-room, part-fit, part-such, Stands, part-stands}
 use Rattle.archive.proofs.WriterAnswer.{few-nodes, few-links}
 use Rattle.archive.proofs.Laying.{record-size}
 use Rattle.rows.specs.Count.{rowsTo}
@@ -64,7 +64,7 @@ laid-back size records row e l =
 
 seal-made :
     (number : ℕ) (f : ℕ → List ℕ) (part : Part) (before : List ℕ)
-    → length before ≡ blockBytes → unheard (part .kind) (part .used) ≡ false → Fit part
+    → length before ≡ blockBytes → noSuchBlock (part .kind) (part .used) ≡ false → Fit part
     → length (rowsTo (λ r. f (part .from + r)) (part .used)) ≡ part .used * heldBytes (part .kind)
     → sealed (part .kind) number (part .used) (laid f part before)
     ≡ block (part .kind) number (part .used) (rowsTo (λ r. f (part .from + r)) (part .used))
@@ -104,8 +104,8 @@ module _ (links parents : List ℕ) (search : Search) where
       fit : Fit part
       fit = subst Fit (sym named) (part-fit (length parents) (linksIn links) i)
 
-      heard : unheard (part .kind) (part .used) ≡ false
-      heard = subst (λ (p : Part). unheard (p .kind) (p .used) ≡ false) (sym named) (part-heard (length parents) (linksIn links) i there)
+      heard : noSuchBlock (part .kind) (part .used) ≡ false
+      heard = subst (λ (p : Part). noSuchBlock (p .kind) (p .used) ≡ false) (sym named) (part-such (length parents) (linksIn links) i there)
 
       stands : Stands (length parents) part
       stands =

@@ -90,16 +90,16 @@ module _ (links parents : List ℕ) (search : Search) where
         ∙ table-entry g (pastEntries (g .nodes) bareRow) x l))
 
 -- the checks of the content in their order
-module _ (file links parents : List ℕ) (search : Search) (tight : Bool)
-    (ok : netVerdict (netOf links parents search) ≡ Taken) (w : Verdict) (wis : w ≡ refuseIf tight NoRoom 0) where
-  pub room-refuses : (r : Refusal) → w ≡ Refused r → w ≡ contentVerdict file (netOf links parents search) tight
+module _ (file links parents : List ℕ) (search : Search) (tooShort : Bool)
+    (ok : netVerdict (netOf links parents search) ≡ Taken) (w : Verdict) (wis : w ≡ refuseIf tooShort NoRoom 0) where
+  pub room-refuses : (r : Refusal) → w ≡ Refused r → w ≡ contentVerdict file (netOf links parents search) tooShort
   unfolding contentVerdict
   room-refuses r t = t ∙ sym (head-passes _ _ ok ∙ head-refuses _ _ r (sym wis ∙ t))
 
   pub entries-decide :
       w ≡ Taken
       → (f : Found) → f ≡ firstTo (badStored file (netOf links parents search)) (length parents) → (x : Verdict)
-      → x ≡ refusedAt BadEntry f → x ≡ contentVerdict file (netOf links parents search) tight
+      → x ≡ refusedAt BadEntry f → x ≡ contentVerdict file (netOf links parents search) tooShort
   unfolding contentVerdict refuseAt netOf
   entries-decide t f e x q =
       q

@@ -18,10 +18,10 @@ use Rattle.rows.proofs.Refusing.{head-refuses, head-passes, if-taken, only-one}
 use Rattle.rows.proofs.Tests.{or-false}
 use Rattle.network.specs.Records.{sizeVerdict}
 use Rattle.archive.specs.declared.Header.{Header}
-use Rattle.archive.specs.Reader.{headRead, unequal, blockRefusal, headVerdict}
+use Rattle.archive.specs.Reader.{headRead, badFileLength, blockRefusal, headVerdict}
 
-module _ (file : List ℕ) (b : Bool) (odd : b ≡ unequal file) (v : Verdict) (is : v ≡ refuseIf b BadLength 0) where
-  whole : v ≡ refuseIf (unequal file) BadLength 0
+module _ (file : List ℕ) (b : Bool) (odd : b ≡ badFileLength file) (v : Verdict) (is : v ≡ refuseIf b BadLength 0) where
+  whole : v ≡ refuseIf (badFileLength file) BadLength 0
   whole = is ∙ ap (λ k. refuseIf k BadLength 0) odd
 
   pub length-refuses : (r : Refusal) → v ≡ Refused r → v ≡ headVerdict file
@@ -31,9 +31,9 @@ module _ (file : List ℕ) (b : Bool) (odd : b ≡ unequal file) (v : Verdict) (
   module _ (ok : v ≡ Taken) where
     -- a file that is not empty has a first block
     pub first-there : 0 * blockBytes + blockBytes ≤ length file
-    unfolding unequal
+    unfolding badFileLength
     first-there =
-        let parts = or-false (eqb (length file) 0) (not (eqb (length file % blockBytes) 0)) (if-taken (unequal file) BadLength 0 (sym whole ∙ ok)) in
+        let parts = or-false (eqb (length file) 0) (not (eqb (length file % blockBytes) 0)) (if-taken (badFileLength file) BadLength 0 (sym whole ∙ ok)) in
         omega (arith, eqb-false (length file) 0 (parts .0), eqb-true (length file % blockBytes) 0 (not-false (eqb (length file % blockBytes) 0) (parts .1)))
 
     module _ (w : Verdict) (first : w ≡ blockRefusal file 0 0 0) where

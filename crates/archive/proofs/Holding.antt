@@ -125,11 +125,11 @@ module _ (file : List ℕ) (head : Header) (b : Blocked file head) where
       network-is = λ t. netOf (part-is t) (part-is′ t) (search-is t)
 
       pub content-is :
-          (tight : Bool) (v : Verdict)
-          → v ≡ contentVerdict file (netOf part part′ (head .search)) tight
-          → v ≡ contentVerdict file (netRead file) tight
+          (tooShort : Bool) (v : Verdict)
+          → v ≡ contentVerdict file (netOf part part′ (head .search)) tooShort
+          → v ≡ contentVerdict file (netRead file) tooShort
       unfolding netRead
-      content-is tight v q = q ∙ (λ t. contentVerdict file (netOf (part-is t) (part-is′ t) (search-is t)) tight)
+      content-is tooShort v q = q ∙ (λ t. contentVerdict file (netOf (part-is t) (part-is′ t) (search-is t)) tooShort)
 
       pub entries-placed : Placed file (linksIn part) (length part′)
       entries-placed = placed-rows (linksIn part) (ap linksIn part-is ∙ links-of file) (length part′) (ap length part-is′ ∙ nodes-of file)

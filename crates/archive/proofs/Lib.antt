@@ -18,3 +18,5 @@ pub mod Returning
 pub mod ReadOrder
 pub mod Depth
 pub mod WrittenAccepted
+pub mod Accepted
+pub mod Outcomes

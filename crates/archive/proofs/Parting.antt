@@ -12,7 +12,7 @@ use Rattle.edition.specs.Limits.{nodeLimit, linkLimit}
 use Rattle.edition.specs.Stored.{payloadBytes, headerKind, linksKind, tableKind, headerBytes, linkBytes, entryBytes, headersABlock, linksABlock, entriesABlock}
 use Rattle.rows.proofs.Tests.{clash}
 use Rattle.numbers.specs.Bytes.{wordMost}
-use Rattle.block.specs.Block.{capacity, recordBytes, unheard}
+use Rattle.block.specs.Block.{capacity, recordBytes, noSuchBlock}
 use Rattle.archive.specs.declared.Part.{Part}
 use Rattle.archive.specs.Parts.{blocksFor, linkBlocks, blockCount, partOf, partAt}
 use Rattle.archive.specs.Work.{heldBytes}
@@ -80,14 +80,14 @@ pub part-small : (n m i : ℕ) (part : Part) → part ≡ partAt n m i → part 
 part-small n m i part q = subst (λ (p : Part). p .used ≤ linksABlock) (sym q) (part-fit n m i .few)
 
 -- each has some records, and no more than a block of its kind holds
-heard : (kind used : ℕ) → 0 < used → used ≤ capacity kind → unheard kind used ≡ false
-unfolding unheard
+heard : (kind used : ℕ) → 0 < used → used ≤ capacity kind → noSuchBlock kind used ≡ false
+unfolding noSuchBlock
 heard kind used some few = rw (ne-eqb used 0 (λ z. omega (arith, some, z)), le-ltb (capacity kind) used few)
 
-pub part-heard : (n m i : ℕ) → i < blockCount n m → unheard (partAt n m i .kind) (partAt n m i .used) ≡ false
+pub part-such : (n m i : ℕ) → i < blockCount n m → noSuchBlock (partAt n m i .kind) (partAt n m i .used) ≡ false
 unfolding partOf capacity blockCount blocksFor
-part-heard n m i l =
-    by-part (λ p. unheard (p .kind) (p .used) ≡ false) n m i
+part-such n m i l =
+    by-part (λ p. noSuchBlock (p .kind) (p .used) ≡ false) n m i
     (λ e. heard headerKind 1 (omega arith) (omega arith))
     (λ s h. heard linksKind (min linksABlock (m - (i - 1) * linksABlock)) (omega (arith, s, h)) (omega arith))
     (λ h. heard tableKind (min entriesABlock (n - (i - 1 - linkBlocks m) * entriesABlock)) (omega (arith, h, l)) (omega arith))

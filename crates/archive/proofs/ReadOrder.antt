@@ -23,7 +23,7 @@ use Rattle.sound.specs.Sound.{recordVerdict, netVerdict}
 use Rattle.numbers.specs.Bytes.{wordMost}
 use Rattle.archive.specs.declared.Header.{Header}
 use Rattle.archive.specs.Parts.{blockCount}
-use Rattle.archive.specs.Reader.{nodesRead, linksRead, searchRead, headRead, netRead, blockRefusal, badEntry, Rows, tight, headVerdict}
+use Rattle.archive.specs.Reader.{nodesRead, linksRead, searchRead, headRead, netRead, blockRefusal, badEntry, Rows, tooShort, headVerdict}
 use Rattle.archive.specs.Reader.{restVerdict, readVerdict}
 use Rattle.archive.specs.Work.{Blocked, badStored, contentVerdict}
 use Rattle.archive.proofs.Reading.{nodes-read, links-read}
@@ -132,7 +132,7 @@ module _ (file : List ℕ) (rows : Rows) (v : Verdict) (is : v ≡ headVerdict f
 
           pub records-decide :
               x ≡ Taken
-              → (short : Bool) → short ≡ tight (head .nodes) (head .links) rows → (y : Verdict)
+              → (short : Bool) → short ≡ tooShort (head .nodes) (head .links) rows → (y : Verdict)
               → y ≡ contentVerdict file (netRead file) short → y ≡ readVerdict file rows
           unfolding restVerdict
           records-decide t short s y q =
@@ -142,5 +142,5 @@ module _ (file : List ℕ) (rows : Rows) (v : Verdict) (is : v ≡ headVerdict f
               (λ (b : Bool). firstly
               (recordVerdict (netRead file) ∷ refuseIf b NoRoom 0 ∷ refuseAt (badEntry file) (nodesRead file)
               BadEntry ∷ []))
-              (s ∙ ap₂ (λ (a b : ℕ). tight a b rows) nodes-is links-is)
+              (s ∙ ap₂ (λ (a b : ℕ). tooShort a b rows) nodes-is links-is)
               ∙ (sym (head-passes _ _ (sym length-is ∙ long) ∙ head-passes _ _ (sym blocks-are ∙ t)) ∙ rest-decides file rows taken)))

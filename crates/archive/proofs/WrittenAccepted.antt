@@ -29,8 +29,8 @@ use Rattle.record.specs.Record.{entryRecord}
 use Rattle.record.proofs.Putting.{entry-size}
 use Rattle.archive.specs.Parts.{linkBlocks, blockCount, partOf, partAt, entryPlace}
 use Rattle.archive.specs.Writer.{recordOf, blockOf, fileOf}
-use Rattle.archive.specs.Reader.{searchRead, netRead, blockRefusal, unequal, badEntry, Rows, tight, headVerdict, restVerdict, readVerdict}
-use Rattle.archive.proofs.Parting.{by-part, part-fit, part-heard}
+use Rattle.archive.specs.Reader.{searchRead, netRead, blockRefusal, badFileLength, badEntry, Rows, tooShort, headVerdict, restVerdict, readVerdict}
+use Rattle.archive.proofs.Parting.{by-part, part-fit, part-such}
 use Rattle.archive.proofs.Pieces.{row-get}
 use Rattle.archive.proofs.FileContents.{recordsOf, records-size, file-size, block-there, entry-there}
 use Rattle.archive.proofs.Returning.{nodes-written, links-written, depth-written, network-back}
@@ -63,14 +63,14 @@ module _ (g : Net) where
   block-taken i l =
       let p = partAt n m i in
       ap (blockVerdict (p .kind) i (p .used)) (block-there g i l)
-      ∙ sealed-sound (p .kind) i (p .used) (recordsOf g p) (part-heard n m i l) (records-size g p (part-fit n m i)) (part-clean i)
+      ∙ sealed-sound (p .kind) i (p .used) (recordsOf g p) (part-such n m i l) (records-size g p (part-fit n m i)) (part-clean i)
 
   header-taken : blockRefusal (fileOf g) 0 0 0 ≡ Taken
   unfolding blockRefusal partAt blockCount
   header-taken = block-taken 0 (omega arith)
 
-  even : unequal (fileOf g) ≡ false
-  unfolding unequal blockCount
+  even : badFileLength (fileOf g) ≡ false
+  unfolding badFileLength blockCount
   even =
       let size = file-size g in
       rw (ne-eqb (length (fileOf g)) 0 (λ z. omega (arith, z, size)), eq-eqb (length (fileOf g) % blockBytes) 0 (omega (arith, size)))
@@ -86,7 +86,7 @@ module _ (g : Net) where
         ∙ (ap (sizeVerdict editionLimits n m) (depth-written g ok) ∙ fits))
         none-left))
 
-    module _ (back : netRead (fileOf g) ≡ g) (rows : Rows) (room : tight n m rows ≡ false) where
+    module _ (back : netRead (fileOf g) ≡ g) (rows : Rows) (room : tooShort n m rows ≡ false) where
       entry-fresh : (x : ℕ) → x < n → badEntry (fileOf g) x ≡ false
       unfolding badEntry
       entry-fresh x l =
@@ -109,10 +109,11 @@ module _ (g : Net) where
               (refuseIf (not (eqb (length (fileOf g)) (blockCount a b * blockBytes))) BadLength 0 ∷
               verdictTo (blockRefusal (fileOf g) a b) (blockCount a b) ∷
               recordVerdict (netRead (fileOf g)) ∷
-              refuseIf (tight a b rows) NoRoom 0 ∷
+              refuseIf (tooShort a b rows) NoRoom 0 ∷
               refuseAt (badEntry (fileOf g)) a BadEntry ∷ [])
 
-      all-accepted : readVerdict (fileOf g) rows ≡ Taken
+      -- every check of the file passes
+      pub all-accepted : readVerdict (fileOf g) rows ≡ Taken
       unfolding readVerdict
       all-accepted = both-taken _ _ head-accepted (both-taken _ _ rest-accepted none-left)
 
@@ -121,7 +122,7 @@ pub written-accepted :
     (links parents : List ℕ) (search : Search)
     → netVerdict (netOf links parents search) ≡ Taken
     → sizeVerdict editionLimits (length parents) (linksIn links) search ≡ Taken → ((i : ℕ) → getD links i 0 ≤ longest)
-    → (rows : Rows) → tight (length parents) (linksIn links) rows ≡ false
+    → (rows : Rows) → tooShort (length parents) (linksIn links) rows ≡ false
     → readVerdict (fileOf (netOf links parents search)) rows ≡ Taken
 unfolding netOf
 written-accepted links parents search ok fits held rows room =

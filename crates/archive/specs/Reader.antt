@@ -9,7 +9,7 @@ use Rattle.edition.specs.declared.Verdict.{Verdict}
 use Rattle.edition.specs.declared.Verdict.the-variants.{Taken, Refused}
 use Rattle.edition.specs.declared.Why.the-variants.{BadLength, NoRoom, BadEntry}
 use Rattle.edition.specs.Stored.{editionLimits, blockBytes, entryBytes}
-use Rattle.edition.specs.Refusals.{made}
+use Rattle.edition.specs.Refusals.{ifTaken}
 use Rattle.rows.specs.Count.{rowsTo}
 use Rattle.rows.specs.First.{refuseIf, refuseAt, firstly, verdictTo}
 use Rattle.rows.specs.Lists.{same}
@@ -28,16 +28,19 @@ use Rattle.archive.specs.declared.ReadAnswer.the-variants.{Is, Not}
 use Rattle.archive.specs.Parts.{blockCount, partAt, linkPlace, entryPlace}
 use Rattle.record.specs.Record.{entryRecord}
 
--- The header's numbers: n, m, root, depth.
+-- n, as the header says it.
 unfoldable pub nodesRead : List ℕ → ℕ
 nodesRead file = numberIn file 8 2
 
+-- m, as the header says it.
 unfoldable pub linksRead : List ℕ → ℕ
 linksRead file = numberIn file 10 2
 
+-- Root and depth, as the header says them.
 unfoldable pub searchRead : List ℕ → Search
 searchRead file = record { root = numberIn file 12 2; depth = numberIn file 14 2 }
 
+-- All that the header says.
 unfoldable pub headRead : List ℕ → Header
 headRead file = record { nodes = nodesRead file; links = linksRead file; search = searchRead file }
 
@@ -64,16 +67,17 @@ parentsHeld file = rowsTo (λ x. numberIn file (entryPlace (linksRead file) x) 2
 unfoldable pub netRead : List ℕ → Net
 netRead file = netOf (linksHeld file) (parentsHeld file) (searchRead file)
 
--- Block i of a file, as bytes, and what it is refused for in a file of n nodes and m links.
+-- The bytes of block i of a file.
 unfoldable pub blockAt : List ℕ → ℕ → List ℕ
 blockAt file i = take blockBytes (drop (i * blockBytes) file)
 
+-- What block i is refused for in a file of n nodes and m links.
 unfoldable pub blockRefusal : List ℕ → ℕ → ℕ → ℕ → Verdict
 blockRefusal file n m i = let p = partAt n m i in blockVerdict (p .kind) i (p .used) (blockAt file i)
 
 -- 20: the file is empty or not a multiple of 512 bytes.
-unfoldable pub unequal : List ℕ → Bool
-unequal file = eqb (length file) 0 || not (eqb (length file % blockBytes) 0)
+unfoldable pub badFileLength : List ℕ → Bool
+badFileLength file = eqb (length file) 0 || not (eqb (length file % blockBytes) 0)
 
 -- 24: the stored entry of x is not the one worked out.
 unfoldable pub badEntry : List ℕ → ℕ → Bool
@@ -88,15 +92,15 @@ pub record Rows : Type 0 where
   pub entries : List ℕ
 
 -- 10: a lent row is too short.
-unfoldable pub tight : ℕ → ℕ → Rows → Bool
-tight n m rows =
+unfoldable pub tooShort : ℕ → ℕ → Rows → Bool
+tooShort n m rows =
     ltb (linksIn (rows .links)) m || ltb (length (rows .parents)) n || ltb (entriesIn (rows .entries)) n
 
 -- The length, the header's block, and 1 to 4 from its numbers at edition 1's limits.
 unfoldable pub headVerdict : List ℕ → Verdict
 headVerdict file =
     firstly
-    (refuseIf (unequal file) BadLength 0 ∷
+    (refuseIf (badFileLength file) BadLength 0 ∷
     blockRefusal file 0 0 0 ∷
     sizeVerdict editionLimits (nodesRead file) (linksRead file) (searchRead file) ∷ [])
 
@@ -109,7 +113,7 @@ restVerdict file rows =
     (refuseIf (not (eqb (length file) (blockCount n m * blockBytes))) BadLength 0 ∷
     verdictTo (blockRefusal file n m) (blockCount n m) ∷
     recordVerdict (netRead file) ∷
-    refuseIf (tight n m rows) NoRoom 0 ∷
+    refuseIf (tooShort n m rows) NoRoom 0 ∷
     refuseAt (badEntry file) n BadEntry ∷ [])
 
 -- The order for a file.
@@ -121,6 +125,7 @@ abbrev pub readIf : Verdict → Header → ReadAnswer
 readIf Taken head = Is head
 readIf (Refused r) head = Not r
 
+-- What the reader answers: n, m, root and depth, or the refusal.
 unfoldable pub readAnswer : List ℕ → Rows → ReadAnswer
 readAnswer file rows = readIf (readVerdict file rows) (headRead file)
 
@@ -135,4 +140,4 @@ rowsRead file rows =
       parents = parentsHeld file ++ drop n (rows .parents);
       entries = table (netRead file) ++ pastEntries n (rows .entries);
     } in
-    made (readVerdict file rows) new rows
+    ifTaken (readVerdict file rows) new rows

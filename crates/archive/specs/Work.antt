@@ -79,8 +79,8 @@ pub record Placed (file : List ℕ) (m n : ℕ) : Type 0 where
 
 -- 1 to 9, then 10, then 24, of a network that a file holds
 unfoldable pub contentVerdict : List ℕ → Net → Bool → Verdict
-contentVerdict file g tight =
-    firstly (netVerdict g ∷ refuseIf tight NoRoom 0 ∷ refuseAt (badStored file g) (g .nodes) BadEntry ∷ [])
+contentVerdict file g short =
+    firstly (netVerdict g ∷ refuseIf short NoRoom 0 ∷ refuseAt (badStored file g) (g .nodes) BadEntry ∷ [])
 
 -- a file whose header is this, within the limits, and that has as many blocks as it says
 pub record Blocked (file : List ℕ) (head : Header) : Type 0 where

@@ -8,7 +8,7 @@ use Rattle.edition.specs.declared.Verdict.{Verdict}
 use Rattle.edition.specs.declared.Verdict.the-variants.{Taken, Refused}
 use Rattle.edition.specs.declared.Why.the-variants.{NoRoom}
 use Rattle.edition.specs.Stored.{blockBytes, headerKind, linksKind}
-use Rattle.edition.specs.Refusals.{made}
+use Rattle.edition.specs.Refusals.{ifTaken}
 use Rattle.rows.specs.Count.{rowsTo}
 use Rattle.rows.specs.First.{refuseIf, firstly}
 use Rattle.network.specs.Network.{Net}
@@ -51,9 +51,10 @@ abbrev pub writeIf : Verdict → ℕ → WriteAnswer
 writeIf Taken length = Is length
 writeIf (Refused r) length = Not r
 
+-- What the writer answers: the file's length, or the refusal.
 unfoldable pub writeAnswer : Net → List ℕ → WriteAnswer
 writeAnswer g row = writeIf (writeVerdict g row) (fileLength g)
 
 -- What the lent bytes then hold: the file and what lay past it, or on a refusal what they held.
 unfoldable pub writtenRow : Net → List ℕ → List ℕ
-writtenRow g row = let new = fileOf g ++ drop (fileLength g) row in made (writeVerdict g row) new row
+writtenRow g row = let new = fileOf g ++ drop (fileLength g) row in ifTaken (writeVerdict g row) new row

@@ -14,7 +14,7 @@ ghost use Rattle.archive.specs.Work.{heldBytes, recordBy, laid, Held, Ta
 ghost use Rattle.rows.specs.Count.{rowWith};
 ghost use Rattle.rows.specs.Lists.{same};
 ghost use Rattle.rows.specs.First.{firstTo, verdictTo};
-ghost use Rattle.archive.specs.Reader.{Rows, blockRefusal, headRead, netRead, unequal, headVerdict, tight, readVerdict, readAnswer, rowsRead};
+ghost use Rattle.archive.specs.Reader.{Rows, blockRefusal, headRead, netRead, badFileLength, headVerdict, tooShort, readVerdict, readAnswer, rowsRead};
 ghost use Rattle.archive.specs.Reader.{nodesRead, linksRead, storedLink, linksHeld, parentsHeld};
 ghost use Rattle.table.specs.Table.{table};
 ghost use Rattle.archive.specs.Writer.{blockOf, fileOf, fileLength, writeVerdict, writeAnswer, writtenRow};
@@ -310,7 +310,7 @@ fn check_part(file: &[u8], n: usize, m: usize, i: usize) -> Verdict
     let part = part_at(n, m, i);
     let at = i * Edition::BLOCK_BYTES;
     block::check_block(
-        part.kind,
+        part.kind as u16,
         i as u16,
         part.used as u16,
         &file[at..at + Edition::BLOCK_BYTES],
@@ -354,7 +354,7 @@ fn header_of(file: &[u8]) -> Header
 
 // Whether a file is empty or not a multiple of 512 bytes.
 fn is_unequal(file: &[u8]) -> bool
-    ensures { λ r. ⌜ r ≡ unequal (now (file .entry)) ⌝ }
+    ensures { λ r. ⌜ r ≡ badFileLength (now (file .entry)) ⌝ }
 {
     if file.len() == 0 {
         return true;
@@ -505,18 +505,18 @@ fn check_content(
     links: &[u16],
     parents: &[u16],
     search: Search,
-    tight: bool,
+    short: bool,
 ) -> Verdict
     requires { ⌜ Placed (now file) (linksIn (now links)) (length (now parents)) ⌝ }
     ensures { λ r.
         let g = netOf (now (links .entry)) (now (parents .entry)) search in
-        ⌜ r ≡ contentVerdict (now (file .entry)) g tight ⌝ }
+        ⌜ r ≡ contentVerdict (now (file .entry)) g short ⌝ }
 {
     let said = sound::check_network(links, parents, search);
     let Checked::Sound(_) = said else {
         return sound::handed_up(said);
     };
-    let room = rows::refuse_if(tight, Why::NoRoom, 0);
+    let room = rows::refuse_if(short, Why::NoRoom, 0);
     let Verdict::Taken = room else {
         return room;
     };
@@ -524,9 +524,9 @@ fn check_content(
 }
 
 // 5 to 9, 10 and 24, of a file whose length and blocks are right.
-fn check_records(file: &[u8], head: Header, tight: bool) -> Verdict
+fn check_records(file: &[u8], head: Header, short: bool) -> Verdict
     requires { ⌜ Blocked (now file) head ⌝ }
-    ensures { λ r. ⌜ r ≡ contentVerdict (now (file .entry)) (netRead (now (file .entry))) tight ⌝ }
+    ensures { λ r. ⌜ r ≡ contentVerdict (now (file .entry)) (netRead (now (file .entry))) short ⌝ }
 {
     let n = head.nodes;
     let m = head.links;
@@ -539,15 +539,15 @@ fn check_records(file: &[u8], head: Header, tight: bool) -> Verdict
         network::first_links(&links, m),
         rows::first(&parents, n),
         head.search,
-        tight,
+        short,
     )
 }
 
 // Whether a lent row is too short for what a file holds.
-fn is_tight(head: Header, links: &[u16], parents: &[u16], entries: &[u64]) -> bool
+fn is_too_short(head: Header, links: &[u16], parents: &[u16], entries: &[u64]) -> bool
     ensures { λ r.
         let rows : Rows = record { links = now (links .entry); parents = now (parents .entry); entries = now (entries .entry) } in
-        ⌜ r ≡ tight (head .nodes) (head .links) rows ⌝ }
+        ⌜ r ≡ tooShort (head .nodes) (head .links) rows ⌝ }
 {
     if network::links_in(links) < head.links {
         return true;
@@ -578,7 +578,7 @@ pub fn check_read(file: &[u8], links: &[u16], parents: &[u16], entries: &[u64]) 
     let Verdict::Taken = blocks else {
         return blocks;
     };
-    check_records(file, head, is_tight(head, links, parents, entries))
+    check_records(file, head, is_too_short(head, links, parents, entries))
 }
 
 // What an accepted file holds, at the beginning of the lent rows.
@@ -586,10 +586,12 @@ fn fill_rows(file: &[u8], links: &mut [u16], parents: &mut [u16], entries: &mut 
     requires { let rows : Rows = record { links = now links; parents = now parents; entries = now entries } in
         ⌜ readVerdict (now file) rows ≡ Taken ⌝ }
     ensures { λ r.
-        ⌜ (r ≡ headRead (now (file .entry)))
-        × (now (links .exit) ≡ linksHeld (now (file .entry)) ++ pastLinks (linksRead (now (file .entry))) (now (links .entry)))
-        × (now (parents .exit) ≡ parentsHeld (now (file .entry)) ++ drop (nodesRead (now (file .entry))) (now (parents .entry)))
-        × (now (entries .exit) ≡ table (netRead (now (file .entry))) ++ pastEntries (nodesRead (now (file .entry))) (now (entries .entry))) ⌝ }
+        let bytes = now (file .entry) in
+        let n = nodesRead bytes in
+        ⌜ (r ≡ headRead bytes)
+        × (now (links .exit) ≡ linksHeld bytes ++ pastLinks (linksRead bytes) (now (links .entry)))
+        × (now (parents .exit) ≡ parentsHeld bytes ++ drop n (now (parents .entry)))
+        × (now (entries .exit) ≡ table (netRead bytes) ++ pastEntries n (now (entries .entry))) ⌝ }
 {
     let head = header_of(file);
     let n = head.nodes;
@@ -610,10 +612,11 @@ fn fill_rows(file: &[u8], links: &mut [u16], parents: &mut [u16], entries: &mut 
 pub fn read(file: &[u8], links: &mut [u16], parents: &mut [u16], entries: &mut [u64]) -> ReadAnswer
     ensures { λ r.
         let rows : Rows = record { links = now (links .entry); parents = now (parents .entry); entries = now (entries .entry) } in
+        let after = rowsRead (now (file .entry)) rows in
         ⌜ (r ≡ readAnswer (now (file .entry)) rows)
-        × (now (links .exit) ≡ rowsRead (now (file .entry)) rows .links)
-        × (now (parents .exit) ≡ rowsRead (now (file .entry)) rows .parents)
-        × (now (entries .exit) ≡ rowsRead (now (file .entry)) rows .entries) ⌝ }
+        × (now (links .exit) ≡ after .links)
+        × (now (parents .exit) ≡ after .parents)
+        × (now (entries .exit) ≡ after .entries) ⌝ }
 {
     let said = check_read(file, links, parents, entries);
     match said {

@@ -7,7 +7,7 @@ use borrow.Author.Tests.{eq-eqb, ne-eqb}
 use Rattle.edition.specs.Stored.{frontBytes, payloadBytes, tableKind, entryBytes}
 use Rattle.rows.specs.Count.{someTo}
 use Rattle.block.specs.Bytes.{dirty}
-use Rattle.block.specs.Block.{recordBytes, dirtyEntry, badFiller, unheard, badBlock}
+use Rattle.block.specs.Block.{recordBytes, dirtyEntry, badFiller, noSuchBlock, badBlock}
 use Rattle.block.specs.Work.{badFront}
 
 -- an entry: its first zero, then the two others
@@ -35,10 +35,10 @@ module _ (kind used : ℕ) (b : List ℕ) (w : ℕ) (q : w ≡ recordBytes kind)
   entries-decide h e s r = rw (← q, ← p, h, eq-eqb kind tableKind e, ← r)
 
 -- 22: no block, another front, or filler
-module _ (kind number used : ℕ) (b : List ℕ) (t : Bool) (p : t ≡ unheard kind used) where
-  pub unheard-bad : t ≡ true → true ≡ badBlock kind number used b
+module _ (kind number used : ℕ) (b : List ℕ) (t : Bool) (p : t ≡ noSuchBlock kind used) where
+  pub no-such-bad : t ≡ true → true ≡ badBlock kind number used b
   unfolding badBlock
-  unheard-bad h = rw (← p, h)
+  no-such-bad h = rw (← p, h)
 
   module _ (h : t ≡ false) (f : Bool) (q : f ≡ badFront kind number used b) where
     pub front-bad : f ≡ true → true ≡ badBlock kind number used b

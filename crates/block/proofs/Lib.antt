@@ -6,3 +6,4 @@ pub mod Judging
 pub mod Fillers
 pub mod Sealing
 pub mod Whole
+pub mod Outcomes

@@ -11,7 +11,7 @@ use borrow.Author.Tests.{eq-eqb, ne-eqb}
 use Rattle.edition.specs.Stored.{editionOne, blockBytes, frontBytes, payloadBytes}
 use Rattle.numbers.specs.Bytes.{bytesOf}
 use Rattle.block.specs.Bytes.{checksum}
-use Rattle.block.specs.Block.{recordBytes, front, checkOf, filled, block, unheard, sealed}
+use Rattle.block.specs.Block.{recordBytes, front, checkOf, filled, block, noSuchBlock, sealed}
 use Rattle.block.specs.Work.{withFront, cleared}
 use Rattle.block.proofs.Sizes.{size-fits}
 
@@ -66,7 +66,7 @@ module _ (kind number used : ℕ) (b : List ℕ) where
   -- a row that is made a block
   pub sealed-is :
       length b ≡ blockBytes
-      → unheard kind used ≡ false
+      → noSuchBlock kind used ≡ false
       → block kind number used (take (used * recordBytes kind) (drop frontBytes b)) ≡ sealed kind number used b
   unfolding sealed
   sealed-is l h = rw (eq-eqb (length b) blockBytes l, h)
@@ -76,13 +76,13 @@ module _ (kind number used : ℕ) (b : List ℕ) where
   unfolding sealed
   seal-short h = rw (ne-eqb (length b) blockBytes h)
 
-  module _ (l : length b ≡ blockBytes) (t : Bool) (p : t ≡ unheard kind used) where
-    pub seal-unheard : t ≡ true → b ≡ sealed kind number used b
+  module _ (l : length b ≡ blockBytes) (t : Bool) (p : t ≡ noSuchBlock kind used) where
+    pub seal-no-such : t ≡ true → b ≡ sealed kind number used b
     unfolding sealed
-    seal-unheard h = rw (eq-eqb (length b) blockBytes l, ← p, h)
+    seal-no-such h = rw (eq-eqb (length b) blockBytes l, ← p, h)
 
     module _ (h : t ≡ false) (w : ℕ) (q : w ≡ recordBytes kind) (r : List ℕ) (e : r ≡ withFront kind number used b) where
-      heard : unheard kind used ≡ false
+      heard : noSuchBlock kind used ≡ false
       heard = sym p ∙ h
 
       size : used * w ≤ payloadBytes

@@ -8,7 +8,7 @@ use borrow.Author.Tests.{ltb-false}
 use Rattle.edition.specs.Stored.{blockBytes, frontBytes, payloadBytes, headerKind, linksKind, tableKind, headerBytes, linkBytes, entryBytes}
 use Rattle.edition.specs.Stored.{headersABlock, linksABlock, entriesABlock}
 use Rattle.rows.proofs.Tests.{or-false}
-use Rattle.block.specs.Block.{capacity, recordBytes, unheard}
+use Rattle.block.specs.Block.{capacity, recordBytes, noSuchBlock}
 
 by-kind :
     (x y z : Bool) (used : ℕ)
@@ -19,15 +19,15 @@ by-kind false true z used h = omega (arith, ltb-false linksABlock used h)
 by-kind false false true used h = omega (arith, ltb-false entriesABlock used h)
 by-kind false false false used h = omega arith
 
-pub heard-size : (kind used : ℕ) → unheard kind used ≡ false → used * recordBytes kind ≤ payloadBytes
-unfolding unheard capacity recordBytes
-heard-size kind used h =
+pub such-size : (kind used : ℕ) → noSuchBlock kind used ≡ false → used * recordBytes kind ≤ payloadBytes
+unfolding noSuchBlock capacity recordBytes
+such-size kind used h =
     by-kind (eqb kind headerKind) (eqb kind linksKind) (eqb kind tableKind) used
     (or-false (eqb used 0) (ltb (capacity kind) used) h .1)
 
-pub heard-entries : (kind used : ℕ) → unheard kind used ≡ false → kind ≡ tableKind → frontBytes + used * entryBytes ≤ blockBytes
+pub heard-entries : (kind used : ℕ) → noSuchBlock kind used ≡ false → kind ≡ tableKind → frontBytes + used * entryBytes ≤ blockBytes
 unfolding recordBytes
-heard-entries kind used h q = let size = rw q at (heard-size kind used h) in omega arith
+heard-entries kind used h q = let size = rw q at (such-size kind used h) in omega arith
 
-pub size-fits : (kind used : ℕ) → unheard kind used ≡ false → (w : ℕ) → w ≡ recordBytes kind → used * w ≤ payloadBytes
-size-fits kind used h w q = rw q (heard-size kind used h)
+pub size-fits : (kind used : ℕ) → noSuchBlock kind used ≡ false → (w : ℕ) → w ≡ recordBytes kind → used * w ≤ payloadBytes
+size-fits kind used h w q = rw q (such-size kind used h)

@@ -7,7 +7,7 @@ use Prim.Native.Nat.{ℕ, _+_, _*_, _-_, _/_, _%_, _<_, _≤_}
 use native.Mathlib.Omega.{arith}
 use lib.Dec.{eqb}
 use lib.ListN.{length, getD, take, drop, replicate, length-append, length-drop, length-replicate, getD-replicate, take-append-drop, List·getD-append}
-use lib.Seq.{drop-cons, drop-drop, getD-drop, ext-getD, length-take-le, getD-append-add}
+use lib.Seq.{drop-cons, drop-drop, getD-drop, getD-take, ext-getD, length-take-le, getD-append-add}
 use borrow.Author.Tests.{eq-eqb, eqb-true, not-false}
 use Rattle.edition.specs.declared.Verdict.the-variants.{Taken}
 use Rattle.edition.specs.declared.Why.the-variants.{BadLength, BadCheck, BadBlock}
@@ -21,8 +21,8 @@ use Rattle.rows.proofs.Tests.{or-false, or3-false}
 use Rattle.numbers.specs.Bytes.{bytesOf, numberIn}
 use Rattle.numbers.proofs.Getting.{number-two}
 use Rattle.block.specs.Bytes.{checksum, dirty}
-use Rattle.block.specs.Block.{recordBytes, front, checkOf, filled, block, badCheck, dirtyEntry, badFiller, unheard, badBlock, blockVerdict, sealed}
-use Rattle.block.proofs.Sizes.{heard-size}
+use Rattle.block.specs.Block.{recordBytes, front, checkOf, filled, block, badCheck, dirtyEntry, badFiller, noSuchBlock, badBlock, blockVerdict, sealed}
+use Rattle.block.proofs.Sizes.{such-size}
 use Rattle.block.proofs.Judging.{taken-length}
 use Rattle.block.proofs.Sealing.{sealed-is}
 
@@ -49,12 +49,12 @@ module _ (kind number used : ℕ) (b : List ℕ) (h : blockVerdict kind number u
   unfolding blockVerdict
   sound = if-taken (badBlock kind number used b) BadBlock number (head-taken _ _ (rest-taken _ _ (rest-taken _ _ h)))
 
-  parts : (unheard kind used ≡ false) × (not (same (take 6 b) (front kind number used)) ≡ false) × (badFiller kind used b ≡ false)
+  parts : (noSuchBlock kind used ≡ false) × (not (same (take 6 b) (front kind number used)) ≡ false) × (badFiller kind used b ≡ false)
   unfolding badBlock
-  parts = or3-false (unheard kind used) (not (same (take 6 b) (front kind number used))) (badFiller kind used b) sound
+  parts = or3-false (noSuchBlock kind used) (not (same (take 6 b) (front kind number used))) (badFiller kind used b) sound
 
-  pub taken-heard : unheard kind used ≡ false
-  taken-heard = parts .0
+  pub taken-such : noSuchBlock kind used ≡ false
+  taken-such = parts .0
 
   taken-front : take 6 b ≡ front kind number used
   taken-front = same-equal (take 6 b) (front kind number used) (not-false _ (parts .1))
@@ -63,7 +63,7 @@ module _ (kind number used : ℕ) (b : List ℕ) (h : blockVerdict kind number u
   unfolding badFiller
   taken-unused =
       zeros b (frontBytes + used * recordBytes kind) (payloadBytes - used * recordBytes kind)
-      (omega (arith, heard-size kind used taken-heard, taken-length kind number used b h))
+      (omega (arith, such-size kind used taken-such, taken-length kind number used b h))
       (or-false _ _ (parts .2) .0)
 
   records : List ℕ
@@ -72,7 +72,7 @@ module _ (kind number used : ℕ) (b : List ℕ) (h : blockVerdict kind number u
   taken-payload : drop frontBytes b ≡ filled records
   unfolding filled records
   taken-payload =
-      let size = heard-size kind used taken-heard in
+      let size = such-size kind used taken-such in
       let n = length-take-le (used * recordBytes kind) (drop frontBytes b) (omega (arith, length-drop frontBytes b, taken-length kind number used b h)) in
       sym (take-append-drop (used * recordBytes kind) (drop frontBytes b))
       ∙ ap (λ (y : List ℕ). take (used * recordBytes kind) (drop frontBytes b) ++ y)
@@ -104,7 +104,7 @@ pub record Zeroed (records : List ℕ) (r : ℕ) : Type 0 where
   pub third : getD records (r * entryBytes + 11) 0 ≡ 0
 
 -- what the writer makes of records is taken
-module _ (kind number used : ℕ) (records : List ℕ) (heard : unheard kind used ≡ false) (n : length records ≡ used * recordBytes kind) where
+module _ (kind number used : ℕ) (records : List ℕ) (heard : noSuchBlock kind used ≡ false) (n : length records ≡ used * recordBytes kind) where
   made : List ℕ
   made = block kind number used records
 
@@ -117,7 +117,7 @@ module _ (kind number used : ℕ) (records : List ℕ) (heard : unheard kind use
   made-length =
       omega (
         arith,
-        heard-size kind used heard,
+        such-size kind used heard,
         length-append records (replicate (payloadBytes - length records) 0),
         length-replicate {A = ℕ} (payloadBytes - length records) 0,
       )
@@ -200,12 +200,73 @@ module _ (kind number used : ℕ) (records : List ℕ) (heard : unheard kind use
 -- so is a row that is made a block
 pub seal-taken :
     (kind number used : ℕ) (b : List ℕ)
-    → length b ≡ blockBytes → unheard kind used ≡ false
+    → length b ≡ blockBytes → noSuchBlock kind used ≡ false
     → (kind ≡ tableKind → (r : ℕ) → r < used → Zeroed (take (used * recordBytes kind) (drop frontBytes b)) r)
     → blockVerdict kind number used (sealed kind number used b) ≡ Taken
 seal-taken kind number used b l h clean =
-    let size = heard-size kind used h in
+    let size = such-size kind used h in
     rw (← sealed-is kind number used b l h)
     (sealed-sound kind number used (take (used * recordBytes kind) (drop frontBytes b)) h
     (length-take-le (used * recordBytes kind) (drop frontBytes b) (omega (arith, length-drop frontBytes b)))
     clean)
+
+-- what a block that is taken holds in its filler: zeros inside a table's entries
+module _ (kind number used : ℕ) (b : List ℕ) (h : blockVerdict kind number used b ≡ Taken) where
+  entry-clean : kind ≡ tableKind → (r : ℕ) → r < used → dirtyEntry b r ≡ false
+  unfolding badFiller
+  entry-clean q r l =
+      let inner : (eqb kind tableKind && someTo (dirtyEntry b) used) ≡ false =
+      or-false (dirty b (frontBytes + used * recordBytes kind) (payloadBytes - used * recordBytes kind)) _
+      (parts kind number used b h .2) .1 in
+      some-none (dirtyEntry b) used (rw (eq-eqb kind tableKind q) at inner) r l
+
+  clean-byte : (i k j : ℕ) → dirty b i k ≡ false → j < k → getD b (i + j) 0 ≡ 0
+  unfolding dirty
+  clean-byte i k j d l = eqb-true (getD b (i + j) 0) 0 (not-false _ (some-none (λ j. not (eqb (getD b (i + j) 0) 0)) k d j l))
+
+  record-byte : (i k : ℕ) → frontBytes + i ≡ k → i < used * recordBytes kind → getD b k 0 ≡ 0 → getD (records kind number used b h) i 0 ≡ 0
+  unfolding records
+  record-byte i k q l z =
+      getD-take (used * recordBytes kind) (drop frontBytes b) i 0 l ∙ (getD-drop frontBytes b i 0 ∙ (ap (λ (k : ℕ). getD b k 0) q ∙ z))
+
+  -- the records of a table's block have zeros where an entry has zeros
+  pub taken-zeroed : kind ≡ tableKind → (r : ℕ) → r < used → Zeroed (take (used * recordBytes kind) (drop frontBytes b)) r
+  unfolding dirtyEntry recordBytes records
+  taken-zeroed q r l =
+      let at = frontBytes + r * entryBytes in
+      let d = or-false (dirty b (at + 3) 1) (dirty b (at + 10) 2) (entry-clean q r l) in
+      let size : recordBytes kind ≡ entryBytes = rw q in
+      let inside : (j : ℕ) → j < entryBytes → r * entryBytes + j < used * recordBytes kind =
+      λ j m. omega (arith, ap (λ (k : ℕ). used * k) size, l, m) in
+      record {
+        first = record-byte (r * entryBytes + 3) (at + 3 + 0) (omega arith) (inside 3 (omega arith)) (clean-byte (at + 3) 1 0 (d .0) (omega arith));
+        second = record-byte (r * entryBytes + 10) (at + 10 + 0) (omega arith) (inside 10 (omega arith)) (clean-byte (at + 10) 2 0 (d .1) (omega arith));
+        third = record-byte (r * entryBytes + 11) (at + 10 + 1) (omega arith) (inside 11 (omega arith)) (clean-byte (at + 10) 2 1 (d .1) (omega arith));
+      }
+
+-- the one block of a kind, a number and a used count that holds these records: one up to as many as the kind holds, each of the
+-- kind's size, in a table with zeros where an entry has zeros
+pub record OneBlock (kind number used : ℕ) (b records : List ℕ) : Type 0 where
+  pub counted : noSuchBlock kind used ≡ false
+  pub size : length records ≡ used * recordBytes kind
+  pub zeroed : kind ≡ tableKind → (r : ℕ) → r < used → Zeroed records r
+  pub is : b ≡ block kind number used records
+
+-- bytes are taken as a block where they are the one block of some records, and nowhere else
+pub taken-one :
+    (kind number used : ℕ) (b : List ℕ)
+    → ((i : ℕ) → getD b i 0 < 256) → blockVerdict kind number used b ≡ Taken
+    → OneBlock kind number used b (take (used * recordBytes kind) (drop frontBytes b))
+taken-one kind number used b bytes h =
+    record {
+      counted = taken-such kind number used b h;
+      size =
+          length-take-le (used * recordBytes kind) (drop frontBytes b)
+          (omega (arith, length-drop frontBytes b, taken-length kind number used b h, such-size kind used (taken-such kind number used b h)));
+      zeroed = taken-zeroed kind number used b h;
+      is = block-only kind number used b h bytes;
+    }
+
+pub one-taken : (kind number used : ℕ) (b records : List ℕ) → OneBlock kind number used b records → blockVerdict kind number used b ≡ Taken
+one-taken kind number used b records o =
+    ap (blockVerdict kind number used) (o .is) ∙ sealed-sound kind number used records (o .counted) (o .size) (o .zeroed)

@@ -6,7 +6,7 @@ use lib.Dec.{eqb, ltb}
 use lib.ListN.{length, take, drop, replicate}
 use Rattle.edition.specs.declared.Verdict.{Verdict}
 use Rattle.edition.specs.declared.Why.the-variants.{BadLength, BadCheck, BadBlock}
-use Rattle.edition.specs.Refusals.{made}
+use Rattle.edition.specs.Refusals.{ifTaken}
 use Rattle.edition.specs.Stored.{editionOne, blockBytes, frontBytes, payloadBytes, headerKind, linksKind, tableKind, headerBytes, linkBytes}
 use Rattle.edition.specs.Stored.{entryBytes, headersABlock, linksABlock, entriesABlock}
 use Rattle.rows.specs.Count.{someTo}
@@ -64,13 +64,13 @@ badFiller kind used b =
     (eqb kind tableKind && inner)
 
 -- No block of any file has this kind and used count.
-unfoldable pub unheard : ℕ → ℕ → Bool
-unheard kind used = eqb used 0 || ltb (capacity kind) used
+unfoldable pub noSuchBlock : ℕ → ℕ → Bool
+noSuchBlock kind used = eqb used 0 || ltb (capacity kind) used
 
 -- 22: kind, edition, number, used count or filler is wrong, or no block is as the one asked.
 unfoldable pub badBlock : ℕ → ℕ → ℕ → List ℕ → Bool
 badBlock kind number used b =
-    unheard kind used || not (same (take 6 b) (front kind number used)) || badFiller kind used b
+    noSuchBlock kind used || not (same (take 6 b) (front kind number used)) || badFiller kind used b
 
 -- A block asked for by kind, number and used count: 20, 21, 22.
 unfoldable pub blockVerdict : ℕ → ℕ → ℕ → List ℕ → Verdict
@@ -82,15 +82,15 @@ blockVerdict kind number used b =
 
 -- What is handed back: the payload of a sound block, an empty part otherwise.
 unfoldable pub payload : ℕ → ℕ → ℕ → List ℕ → List ℕ
-payload kind number used b = let part = take payloadBytes (drop frontBytes b) in made (blockVerdict kind number used b) part []
+payload kind number used b = let part = take payloadBytes (drop frontBytes b) in ifTaken (blockVerdict kind number used b) part []
 
 -- Where in the lent bytes that part begins.
 unfoldable pub payloadPlace : ℕ → ℕ → ℕ → List ℕ → ℕ
-payloadPlace kind number used b = made (blockVerdict kind number used b) frontBytes 0
+payloadPlace kind number used b = ifTaken (blockVerdict kind number used b) frontBytes 0
 
 -- A row of 512 bytes made a block of the records from byte 8 on. A row that is no block, or a kind and count of which no block
 -- is, stays.
 unfoldable pub sealed : ℕ → ℕ → ℕ → List ℕ → List ℕ
 sealed kind number used b =
-    let made = block kind number used (take (used * recordBytes kind) (drop frontBytes b)) in
-    cond (not (eqb (length b) blockBytes) || unheard kind used) b made
+    let records = take (used * recordBytes kind) (drop frontBytes b) in
+    cond (not (eqb (length b) blockBytes) || noSuchBlock kind used) b (block kind number used records)

@@ -6,7 +6,7 @@ ghost use lib.ListN.{length};
 ghost use Rattle.edition.specs.Stored.{blockBytes, frontBytes, entryBytes};
 ghost use Rattle.rows.specs.Count.{someTo};
 ghost use Rattle.block.specs.Bytes.{onesAdd, dirty};
-ghost use Rattle.block.specs.Block.{capacity, recordBytes, checkOf, dirtyEntry, badFiller, unheard, badBlock, blockVerdict};
+ghost use Rattle.block.specs.Block.{capacity, recordBytes, checkOf, dirtyEntry, badFiller, noSuchBlock, badBlock, blockVerdict};
 ghost use Rattle.block.specs.Block.{payload as payloadOf, payloadPlace, sealed};
 ghost use Rattle.block.specs.Work.{blockWords, wordOf, badFront, withFront, cleared};
 use edition::Edition;
@@ -69,40 +69,40 @@ fn check_of(b: &[u8]) -> u16
 }
 
 // How many records a block of a kind holds; 0 where the kind is none of the three.
-fn capacity_of(kind: u8) -> usize
+fn capacity_of(kind: u16) -> usize
     ensures { λ r. ⌜ r ≡ capacity kind ⌝ }
 {
-    if kind == Edition::HEADER_KIND {
+    if kind == Edition::HEADER_KIND as u16 {
         return Edition::HEADERS_A_BLOCK;
     }
-    if kind == Edition::LINKS_KIND {
+    if kind == Edition::LINKS_KIND as u16 {
         return Edition::LINKS_A_BLOCK;
     }
-    if kind == Edition::TABLE_KIND {
+    if kind == Edition::TABLE_KIND as u16 {
         return Edition::ENTRIES_A_BLOCK;
     }
     0
 }
 
 // How many bytes a record of a kind takes; 0 where the kind is none of the three.
-fn bytes_of_record(kind: u8) -> usize
+fn bytes_of_record(kind: u16) -> usize
     ensures { λ r. ⌜ r ≡ recordBytes kind ⌝ }
 {
-    if kind == Edition::HEADER_KIND {
+    if kind == Edition::HEADER_KIND as u16 {
         return Edition::HEADER_BYTES;
     }
-    if kind == Edition::LINKS_KIND {
+    if kind == Edition::LINKS_KIND as u16 {
         return Edition::LINK_BYTES;
     }
-    if kind == Edition::TABLE_KIND {
+    if kind == Edition::TABLE_KIND as u16 {
         return Edition::ENTRY_BYTES;
     }
     0
 }
 
 // Whether no block has this kind and used count.
-fn is_unheard(kind: u8, used: u16) -> bool
-    ensures { λ r. ⌜ r ≡ unheard kind used ⌝ }
+fn no_such_block(kind: u16, used: u16) -> bool
+    ensures { λ r. ⌜ r ≡ noSuchBlock kind used ⌝ }
 {
     if used == 0 {
         return true;
@@ -153,8 +153,8 @@ fn has_dirty_entry(b: &[u8], used: usize) -> bool
 }
 
 // Whether filler is not 0: the unused payload, or the zeros inside a table's entries.
-fn bad_filler(kind: u8, used: u16, b: &[u8]) -> bool
-    requires { ⌜ (length (now b) ≡ blockBytes) × (unheard kind used ≡ false) ⌝ }
+fn bad_filler(kind: u16, used: u16, b: &[u8]) -> bool
+    requires { ⌜ (length (now b) ≡ blockBytes) × (noSuchBlock kind used ≡ false) ⌝ }
     ensures { λ r. ⌜ r ≡ badFiller kind used (now (b .entry)) ⌝ }
 {
     let size = used as usize * bytes_of_record(kind);
@@ -165,18 +165,18 @@ fn bad_filler(kind: u8, used: u16, b: &[u8]) -> bool
     ) {
         return true;
     }
-    if kind != Edition::TABLE_KIND {
+    if kind != Edition::TABLE_KIND as u16 {
         return false;
     }
     has_dirty_entry(b, used as usize)
 }
 
 // Whether kind, edition, number or used count is not the one asked.
-fn bad_front(kind: u8, number: u16, used: u16, b: &[u8]) -> bool
+fn bad_front(kind: u16, number: u16, used: u16, b: &[u8]) -> bool
     requires { ⌜ length (now b) ≡ blockBytes ⌝ }
     ensures { λ r. ⌜ r ≡ badFront kind number used (now (b .entry)) ⌝ }
 {
-    if b[0] != kind {
+    if b[0] as u16 != kind {
         return true;
     }
     if b[1] != Edition::NUMBER {
@@ -189,11 +189,11 @@ fn bad_front(kind: u8, number: u16, used: u16, b: &[u8]) -> bool
 }
 
 // Whether a block of the right length is refused by 22.
-fn bad_block(kind: u8, number: u16, used: u16, b: &[u8]) -> bool
+fn bad_block(kind: u16, number: u16, used: u16, b: &[u8]) -> bool
     requires { ⌜ length (now b) ≡ blockBytes ⌝ }
     ensures { λ r. ⌜ r ≡ badBlock kind number used (now (b .entry)) ⌝ }
 {
-    if is_unheard(kind, used) {
+    if no_such_block(kind, used) {
         return true;
     }
     if bad_front(kind, number, used, b) {
@@ -203,7 +203,7 @@ fn bad_block(kind: u8, number: u16, used: u16, b: &[u8]) -> bool
 }
 
 // Whether lent bytes are the block asked for by kind, number and used count, or the first reason why not: 20, 21, 22.
-pub fn check_block(kind: u8, number: u16, used: u16, b: &[u8]) -> Verdict
+pub fn check_block(kind: u16, number: u16, used: u16, b: &[u8]) -> Verdict
     ensures { λ r. ⌜ r ≡ blockVerdict kind number used (now (b .entry)) ⌝ }
 {
     if b.len() != Edition::BLOCK_BYTES {
@@ -226,8 +226,9 @@ pub fn check_block(kind: u8, number: u16, used: u16, b: &[u8]) -> Verdict
 }
 
 // The payload of a sound block, as that part of the lent bytes and no copy; an empty part otherwise.
-pub fn payload(kind: u8, number: u16, used: u16, b: &[u8]) -> &[u8]
+pub fn payload(kind: u16, number: u16, used: u16, b: &[u8]) -> &[u8]
     ensures part { λ r. ⌜ now r ≡ payloadOf kind number used (now (b .entry)) ⌝ }
+    // The part begins at that place of the same lent bytes: `.ptr .0` is whose bytes they are, `.ptr .1` where in them.
     ensures place { λ r.
         ⌜ (r .ptr .0 ≡ b .entry .ptr .0)
         × (r .ptr .1 ≡ payloadPlace kind number used (now (b .entry)) + b .entry .ptr .1) ⌝ }
@@ -269,10 +270,10 @@ pub fn seal(kind: u8, number: u16, used: u16, b: &mut [u8])
     if b.len() != Edition::BLOCK_BYTES {
         return;
     }
-    if is_unheard(kind, used) {
+    if no_such_block(kind as u16, used) {
         return;
     }
-    let size = used as usize * bytes_of_record(kind);
+    let size = used as usize * bytes_of_record(kind as u16);
     put_front(kind, number, used, b);
     clear(
         b,

@@ -1,22 +1,23 @@
 -- An entry goes by the tree and by the links that cross the node: networks that agree on these have the same entry there.
 -- Assumes nothing.
-use mathlib.Core.Path.{_≡_, refl, sym, ap, _∙_}
+use mathlib.Core.Path.{_≡_, refl, sym, subst, ap, _∙_}
 use mathlib.Core.Bool.{true, false, cond, _&&_}
 use Prim.Native.Nat.{ℕ}
 use lib.Dec.{eqb}
 use Rattle.edition.specs.declared.Found.{Found}
 use Rattle.edition.specs.declared.Measure.{Measure}
 use Rattle.edition.specs.declared.Measure.the-variants.{Sum, Incr, Max}
-use Rattle.edition.specs.Entries.{rootState, blank}
+use Rattle.edition.specs.Entries.{rootState, swapState, noneState, bridgeState, blank}
 use Rattle.rows.specs.Count.{someTo}
-use Rattle.rows.specs.First.{bestTo}
+use Rattle.rows.specs.Work.{bestTo}
 use Rattle.rows.proofs.Best.{best-cong, Stands, nobody, somebody, stands}
 use Rattle.rows.proofs.Counting.{some-cong}
 use Rattle.rows.proofs.Tests.{clash}
 use Rattle.network.specs.Network.{Net}
 use Rattle.tree.specs.Tree.{treeOf}
-use Rattle.swap.specs.Swap.{lower, crosses, within, candidate, cost, costOf, offer, better, before, bestSwap}
-use Rattle.swap.specs.Entry.{crossed, saved, stateBelow, priced, swapOf, entry}
+use Rattle.swap.specs.Swap.{innerEnd, crosses, within, candidate, cost, costOf, before, best}
+use Rattle.swap.specs.Entry.{crossed, hasCandidate, state, priced, swapOf, entry}
+use Rattle.swap.proofs.Choosing.{best-by}
 
 -- link k is the same in both, or crosses x in neither
 pub data Alike (x : ℕ) (g h : Net) (k : ℕ) : Type 0 where
@@ -41,7 +42,7 @@ module _ (x : ℕ) (g h : Net) (a : SameFor x g h) where
   unfolding candidate
   candidate-same k =
       elim (a .link k) [
-        | same e ↦ λ i. crosses (a .tree i) x k (e i) && within (a .tree i) (a .search i .depth) x (lower (a .tree i) x (e i))
+        | same e ↦ λ i. crosses (a .tree i) x k (e i) && within (a .tree i) (a .search i .depth) x (innerEnd (a .tree i) x (e i))
         | neither p q ↦ rw (p, q)
       ]
 
@@ -54,39 +55,38 @@ module _ (x : ℕ) (g h : Net) (a : SameFor x g h) where
       ]
 
   before-same : (s : Measure) (e f : ℕ) → candidate h x e ≡ true → candidate h x f ≡ true → before s h x e f ≡ before s g x e f
-  unfolding before offer
-  before-same s e f c d =
-      λ i.
-      better
-      (record { link = e; cost = cost-same s e c i; incr = cost-same Incr e c i })
-      (record { link = f; cost = cost-same s f d i; incr = cost-same Incr f d i })
+  unfolding before
+  before-same s e f c d = rw (cost-same s e c, cost-same s f d)
 
-  best-same : (s : Measure) → bestSwap s h x ≡ bestSwap s g x
-  unfolding bestSwap
+  best-same : (s : Measure) → best s h x ≡ best s g x
   best-same s =
-      best-cong (candidate h x) (candidate g x) (before s h x) (before s g x) (h .links) (λ j l. candidate-same j) (λ e f l m c d. before-same s e f c d)
-      ∙ ap (bestTo (candidate g x) (before s g x)) (a .count)
+      best-by s h x
+      ∙ (best-cong (candidate h x) (candidate g x) (before s h x) (before s g x) (h .links) (λ j l. candidate-same j) (λ e f l m c d. before-same s e f c d)
+      ∙ (ap (bestTo (candidate g x) (before s g x)) (a .count) ∙ sym (best-by s g x)))
 
   swap-same : (s : Measure) → swapOf s h x ≡ swapOf s g x
-  unfolding swapOf bestSwap priced
-  swap-same s = go (stands (candidate h x) (before s h x) (h .links)) ∙ ap (priced s g x) (best-same s)
+  unfolding swapOf priced
+  swap-same s =
+      go (subst (Stands (candidate h x) (before s h x) (h .links)) (sym (best-by s h x)) (stands (candidate h x) (before s h x) (h .links)))
+      ∙ ap (priced s g x) (best-same s)
     where
       go : {f : Found} → Stands (candidate h x) (before s h x) (h .links) f → priced s h x f ≡ priced s g x f
       go nobody = refl
       go (somebody {b} l m) = λ i. record { link = b; cost = cost-same s b m i }
 
-  state-same : stateBelow h x ≡ stateBelow g x
-  unfolding stateBelow crossed saved
+  state-same : state h x ≡ state g x
+  unfolding state crossed hasCandidate
   state-same =
       let near : someTo (candidate h x) (h .links) ≡ someTo (candidate g x) (g .links) =
       some-cong _ _ (h .links) (λ k l. candidate-same k) ∙ ap (someTo (candidate g x)) (a .count) in
       let any : someTo (λ e. crosses (treeOf h) x e (h .link e)) (h .links) ≡ someTo (λ e. crosses (treeOf g) x e (g .link e)) (g .links) =
       some-cong _ _ (h .links) (λ k l. crosses-same k) ∙ ap (someTo (λ e. crosses (treeOf g) x e (g .link e))) (a .count) in
-      rw (near, any)
+      λ i. cond (eqb x (a .search i .root)) rootState (cond (near i) swapState (cond (any i) noneState bridgeState))
 
   pub entry-same : entry h x ≡ entry g x
   unfolding entry
   entry-same =
       λ i.
-      cond (eqb x (a .search i .root)) (blank rootState)
-      (record { state = state-same i; sum = swap-same Sum i; incr = swap-same Incr i; max = swap-same Max i })
+      cond (eqb (state-same i) swapState)
+      (record { state = swapState; sum = swap-same Sum i; incr = swap-same Incr i; max = swap-same Max i })
+      (blank (state-same i))

@@ -27,7 +27,7 @@ use Rattle.tree.specs.Tree.{treeOf, under}
 use Rattle.sound.specs.Sound.{netVerdict}
 use Rattle.sound.proofs.Sounds.{taken}
 use Rattle.sound.proofs.Holding.{nodes-few, root-in, first-in, second-in, link-path}
-use Rattle.table.specs.Table.{marked, freshAt, freshRow, tableVerdict}
+use Rattle.table.specs.Table.{isAsked, freshAt, freshRow, tableVerdict}
 use Rattle.table.specs.Work.{Moved}
 use Rattle.table.proofs.Whole.{table-room}
 use Rattle.change.specs.Change.{breaks, changeVerdict, setLink, mended, changed}
@@ -118,8 +118,8 @@ module _ (links parents : List ℕ) (search : Search) where
     unfolding netOf
     root-node = root-in g (a .before)
 
-    pub marks-room : length parents ≤ length (replicate {A = ℕ} nodeLimit 0)
-    marks-room = omega (arith, few, length-replicate {A = ℕ} nodeLimit 0)
+    pub asked-room : length parents ≤ length (replicate {A = ℕ} nodeLimit 0)
+    asked-room = omega (arith, few, length-replicate {A = ℕ} nodeLimit 0)
 
     module _ (l : Link) (is : l ≡ linkIn links (c .link)) where
       pub first-node : l .first < length parents
@@ -131,14 +131,14 @@ module _ (links parents : List ℕ) (search : Search) where
       second-node = rw is (second-in g (a .before) (c .link) (a .there))
 
       module _ (one : List ℕ) (climb : Moved (λ x. under (treeOf g) x (l .first)) flip (replicate {A = ℕ} nodeLimit 0) one) where
-        pub marks-still : length parents ≤ length one
-        marks-still = omega (arith, marks-room, climb .size)
+        pub asked-still : length parents ≤ length one
+        asked-still = omega (arith, asked-room, climb .size)
 
-        module _ (marks : List ℕ) (other : Moved (λ x. under (treeOf g) x (l .second)) flip one marks) where
-          marked-is : (x : ℕ) → x < length parents → marked marks x ≡ onWay links parents search c a x
+        module _ (asked : List ℕ) (other : Moved (λ x. under (treeOf g) x (l .second)) flip one asked) where
+          marked-is : (x : ℕ) → x < length parents → isAsked asked x ≡ onWay links parents search c a x
           unfolding onWay netOf
           marked-is x m =
-              turned-twice _ _ one marks climb other x (omega (arith, m, few))
+              turned-twice _ _ one asked climb other x (omega (arith, m, few))
               ∙ (ap
               (λ (k : Link). differ (under (treeOf g) x (k .first))
               (under (treeOf g) x (k .second))) is
@@ -155,15 +155,15 @@ module _ (links parents : List ℕ) (search : Search) where
 
           made-same :
               (x : ℕ)
-              → marked marks x ≡ onWay links parents search c a x
-              → freshAt (netOf (setLink links c) parents search) marks entries x
+              → isAsked asked x ≡ onWay links parents search c a x
+              → freshAt (netOf (setLink links c) parents search) asked entries x
               ≡ madeAt links parents search c a entries x
           unfolding freshAt madeAt
           made-same x w = rw w
 
           fresh-rows :
-              freshRow (netOf (setLink links c) parents search) marks entries
-              ≡ rowsTo (freshAt (netOf (setLink links c) parents search) marks entries) (length parents) ++ pastEntries
+              freshRow (netOf (setLink links c) parents search) asked entries
+              ≡ rowsTo (freshAt (netOf (setLink links c) parents search) asked entries) (length parents) ++ pastEntries
               (length parents) entries
           unfolding freshRow netOf
           fresh-rows = rw fresh-taken
@@ -171,21 +171,21 @@ module _ (links parents : List ℕ) (search : Search) where
           pub apply-is :
               (links′ : List ℕ)
               → links′ ≡ setLink links c → (entries′ : List ℕ)
-              → entries′ ≡ freshRow (netOf links′ parents search) marks entries
+              → entries′ ≡ freshRow (netOf links′ parents search) asked entries
               → (links′ ≡ setLink links c)
               × (entries′ ≡ mended g (netOf (setLink links c) parents search) (c .link) entries)
           apply-is links′ q entries′ e = (
             q,
             e
-                ∙ (ap (λ (k : List ℕ). freshRow (netOf k parents search) marks entries) q
+                ∙ (ap (λ (k : List ℕ). freshRow (netOf k parents search) asked entries) q
                 ∙ (fresh-is ∙ sym (mended-rows links parents search c a entries))),
           )
             where
-              same : (x : ℕ) → x < length parents → freshAt (netOf (setLink links c) parents search) marks entries x ≡ madeAt links parents search c a entries x
+              same : (x : ℕ) → x < length parents → freshAt (netOf (setLink links c) parents search) asked entries x ≡ madeAt links parents search c a entries x
               same x m = made-same x (marked-is x m)
 
               fresh-is :
-                  freshRow (netOf (setLink links c) parents search) marks entries
+                  freshRow (netOf (setLink links c) parents search) asked entries
                   ≡ rowsTo (madeAt links parents search c a entries) (length parents) ++ pastEntries (length parents)
                   entries
               fresh-is = fresh-rows ∙ ap (λ (r : List ℕ). r ++ pastEntries (length parents) entries) (rows-cong _ _ (length parents) same)

@@ -21,7 +21,7 @@ use Rattle.tree.proofs.InRows.{treeIn, at-root, off-root}
 use Rattle.sound.specs.Sound.{netVerdict}
 use Rattle.sound.proofs.Sounds.{Sound, sound}
 use Rattle.sound.proofs.Holding.{home, up-in}
-use Rattle.table.specs.Table.{marked}
+use Rattle.table.specs.Table.{isAsked}
 use Rattle.table.specs.Work.{Moved}
 use Rattle.table.proofs.Moving.{moved-none, moved-more, passed-none, passed-more, passed-all}
 use Rattle.change.specs.Work.{flip, flippedAt}
@@ -87,8 +87,8 @@ module _ (links parents : List ℕ) (search : Search) where
 pub turned-twice :
     (p q : ℕ → Bool) (one two : List ℕ)
     → Moved p flip (replicate nodeLimit 0) one → Moved q flip one two → (x : ℕ) → x < nodeLimit
-    → marked two x ≡ differ (p x) (q x)
-unfolding marked flip
+    → isAsked two x ≡ differ (p x) (q x)
+unfolding isAsked flip
 turned-twice p q one two m n x l = go (p x) (q x) refl refl
   where
     go : (a b : Bool) → p x ≡ a → q x ≡ b → not (eqb (getD two x 0) 0) ≡ differ (p x) (q x)

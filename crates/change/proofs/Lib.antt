@@ -7,3 +7,5 @@ pub mod Orders
 pub mod Series
 pub mod Setting
 pub mod Staying
+pub mod Demands
+pub mod Outcomes

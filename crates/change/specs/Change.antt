@@ -9,7 +9,7 @@ use Rattle.edition.specs.declared.Change.{Change}
 use Rattle.edition.specs.declared.Verdict.{Verdict}
 use Rattle.edition.specs.declared.Why.the-variants.{LinkMissing, BadMark, TreeLink, BreaksShort}
 use Rattle.edition.specs.Limits.{served}
-use Rattle.edition.specs.Refusals.{made}
+use Rattle.edition.specs.Refusals.{ifTaken}
 use Rattle.rows.specs.Count.{rowsTo}
 use Rattle.rows.specs.First.{refuseIf, firstly}
 use Rattle.network.specs.declared.Link.{Link}
@@ -68,7 +68,7 @@ changed parents search c lent =
     let old = netOf (lent .links) parents search in
     let links = setLink (lent .links) c in
     let after : Lent = record { links = links; entries = mended old (netOf links parents search) (c .link) (lent .entries) } in
-    made (changeVerdict old (lent .entries) c) after lent
+    ifTaken (changeVerdict old (lent .entries) c) after lent
 
 -- What a list of changes leaves, one after the other.
 unfoldable pub changedBy : List ℕ → Search → List Change → Lent → Lent

@@ -56,9 +56,9 @@ pub fn check_change(
     let Verdict::Taken = there else {
         return there;
     };
-    let marked = rows::refuse_if(network::bad_mark(change.mark), Why::BadMark, e);
-    let Verdict::Taken = marked else {
-        return marked;
+    let isAsked = rows::refuse_if(network::bad_mark(change.mark), Why::BadMark, e);
+    let Verdict::Taken = isAsked else {
+        return isAsked;
     };
     let spare = rows::refuse_if(network::is_parent(parents, e), Why::TreeLink, e);
     let Verdict::Taken = spare else {
@@ -79,30 +79,30 @@ fn other_mark(mark: u64) -> u64
 }
 
 // The mark of node c becomes the other one.
-fn flip_at(marks: &mut [u64], c: usize)
-    requires { ⌜ c < length (now marks) ⌝ }
-    ensures { λ _. ⌜ now (marks .exit) ≡ flippedAt c (now (marks .entry)) ⌝ }
+fn flip_at(asked: &mut [u64], c: usize)
+    requires { ⌜ c < length (now asked) ⌝ }
+    ensures { λ _. ⌜ now (asked .exit) ≡ flippedAt c (now (asked .entry)) ⌝ }
 {
-    marks[c] = other_mark(marks[c]);
+    asked[c] = other_mark(asked[c]);
 }
 
-// The marks of the nodes on the route of u become the other ones.
-fn flip_up(links: &[u16], parents: &[u16], search: Search, marks: &mut [u64], u: usize)
+// What the row has for the nodes on the route of u is turned round: 0 becomes 1 and 1 becomes 0.
+fn flip_up(links: &[u16], parents: &[u16], search: Search, asked: &mut [u64], u: usize)
     requires { let g = netOf (now links) (now parents) search in
         let n = length (now parents) in
         ⌜ (netVerdict g ≡ Taken)
         × (u < n)
-        × (n ≤ length (now marks)) ⌝ }
+        × (n ≤ length (now asked)) ⌝ }
     ensures { λ _.
         let g = netOf (now (links .entry)) (now (parents .entry)) search in
-        ⌜ Moved (λ x. under (treeOf g) x u) flip (now (marks .entry)) (now (marks .exit)) ⌝ }
+        ⌜ Moved (λ x. under (treeOf g) x u) flip (now (asked .entry)) (now (asked .exit)) ⌝ }
 {
     let mut c = u;
     while c != search.root as usize {
-        flip_at(marks, c);
+        flip_at(asked, c);
         c = tree::up(links, parents, search, c);
     }
-    flip_at(marks, c);
+    flip_at(asked, c);
 }
 
 // Stores a length and a service mark in the record of link e, whose other numbers stay.
@@ -129,15 +129,17 @@ fn apply(links: &mut [u16], parents: &[u16], search: Search, entries: &mut [u64]
     requires { ⌜ changeVerdict (netOf (now links) (now parents) search) (now entries) change ≡ Taken ⌝ }
     ensures { λ _.
         let g = netOf (now (links .entry)) (now (parents .entry)) search in
-        ⌜ (now (links .exit) ≡ setLink (now (links .entry)) change)
-        × (now (entries .exit) ≡ mended g (netOf (setLink (now (links .entry)) change) (now (parents .entry)) search) (change .link) (now (entries .entry))) ⌝ }
+        let links′ = setLink (now (links .entry)) change in
+        let g′ = netOf links′ (now (parents .entry)) search in
+        ⌜ (now (links .exit) ≡ links′)
+        × (now (entries .exit) ≡ mended g g′ (change .link) (now (entries .entry))) ⌝ }
 {
     let l = network::link_at(links, change.link as usize);
-    let mut marks = [0u64; Memory::NODES];
-    flip_up(links, parents, search, &mut marks, l.first as usize);
-    flip_up(links, parents, search, &mut marks, l.second as usize);
+    let mut asked = [0u64; Memory::NODES];
+    flip_up(links, parents, search, &mut asked, l.first as usize);
+    flip_up(links, parents, search, &mut asked, l.second as usize);
     set_link(links, change.link as usize, change.length, change.mark);
-    table::refresh(links, parents, search, &marks, entries);
+    table::refresh(links, parents, search, &asked, entries);
 }
 
 // The change of one link. Refused, it changes nothing lent. Taken, it changes that link's record alone, and the table that was
@@ -152,9 +154,10 @@ pub fn change(
     ensures { λ r.
         let lent : Lent = record { links = now (links .entry); entries = now (entries .entry) } in
         let g = netOf (now (links .entry)) (now (parents .entry)) search in
-        ⌜ (r ≡ changeVerdict g (now (entries .entry)) change)
-        × (now (links .exit) ≡ changed (now (parents .entry)) search change lent .links)
-        × (now (entries .exit) ≡ changed (now (parents .entry)) search change lent .entries) ⌝ }
+        let after = changed (now (parents .entry)) search change lent in
+        ⌜ (r ≡ changeVerdict g (lent .entries) change)
+        × (now (links .exit) ≡ after .links)
+        × (now (entries .exit) ≡ after .entries) ⌝ }
 {
     let said = check_change(links, parents, search, entries, change);
     let Verdict::Taken = said else {

@@ -4,11 +4,13 @@ use mathlib.Core.Path.{_≡_, sym, ap, _∙_}
 use mathlib.Core.List.{List, [], _∷_}
 use Prim.Native.Nat.{ℕ, _<_, _≤_}
 use lib.ListN.{length}
+use borrow.Author.Tests.{lt-ltb, le-ltb}
 use Rattle.edition.specs.declared.Refusal.{Refusal}
 use Rattle.edition.specs.declared.Verdict.{Verdict}
 use Rattle.edition.specs.declared.Verdict.the-variants.{Taken, Refused}
 use Rattle.edition.specs.declared.Why.the-variants.{NoRoom}
-use Rattle.edition.specs.Refusals.{refused, made}
+use Rattle.edition.specs.Refusals.{refused, ifTaken}
+use Rattle.rows.specs.First.{firstly}
 use Rattle.network.specs.Network.{Net}
 use Rattle.sound.specs.declared.Sizes.{Sizes}
 use Rattle.sound.specs.declared.Checked.{Checked}
@@ -25,10 +27,11 @@ use Rattle.archive.specs.declared.ReadAnswer.{ReadAnswer}
 use Rattle.archive.specs.declared.ReadAnswer.the-variants as read
 use Rattle.archive.specs.Writer.{fileLength, writeVerdict, writeAnswer, writtenRow}
 use Rattle.archive.specs.Reader.{headRead, Rows, readVerdict, readAnswer, rowsRead}
+use Rattle.archive.proofs.AcceptedRows.{unlent-refused}
 use Rattle.doeragyeol.specs.Word.{wordOf, answered, told}
 use Rattle.doeragyeol.specs.Calls.{lentRows, checkSaid, sizesRow, mapSaid, wordsRow, openRow, writeSaid, fileRow, lengthRow, readSaid, rowsLeft}
 use Rattle.doeragyeol.specs.Calls.{headerRow}
-use Rattle.doeragyeol.proofs.Telling.{room-lacks, room-there, sound-is, sound-not, map-is, map-not, write-is, write-not, read-is, read-not}
+use Rattle.doeragyeol.proofs.Telling.{room-lacks, room-there, rooms-one, ends-refused, sound-is, sound-not, map-is, map-not, write-is, write-not, read-is, read-not}
 
 -- the word and the row of values, by the verdict
 module _ (v : Verdict) where
@@ -39,10 +42,10 @@ module _ (v : Verdict) where
   unfolding wordOf
   done-word t = rw t
 
-  kept : {A : Type 0} (x y : A) (r : Refusal) → v ≡ Refused r → y ≡ made v x y
+  kept : {A : Type 0} (x y : A) (r : Refusal) → v ≡ Refused r → y ≡ ifTaken v x y
   kept x y r t = rw t
 
-  got : {A : Type 0} (x y : A) → v ≡ Taken → x ≡ made v x y
+  got : {A : Type 0} (x y : A) → v ≡ Taken → x ≡ ifTaken v x y
   got x y t = rw t
 
 -- the check
@@ -55,21 +58,23 @@ module _ (g : Net) (sizes : List ℕ) where
   unfolding sizesRow told
   check-kept w r q t = (told-word _ w r t q, kept _ _ _ r t)
 
-  pub check-short : length sizes < 2 → (w : ℕ) → w ≡ wordOf (refused NoRoom 0) → Check w sizes
+  pub check-short : length sizes < 2 → (w : ℕ) → w ≡ wordOf (firstly (netVerdict g ∷ refused NoRoom 0 ∷ [])) → Check w sizes
   unfolding checkSaid
-  check-short l w q = check-kept w _ q (room-lacks 2 sizes (netVerdict g) l)
+  check-short l w q =
+      let no = ends-refused (netVerdict g) in
+      check-kept w (no .0) (q ∙ ap wordOf (no .1)) (room-lacks (netVerdict g) 2 sizes l ∙ no .1)
 
   module _ (l : 2 ≤ length sizes) (a : Checked) (q : a ≡ checked g) where
     pub check-unsound : (r : Refusal) → a ≡ Unsound r → (w : ℕ) → w ≡ wordOf (Refused r) → Check w sizes
     unfolding checked checkSaid
     check-unsound r t w p =
-        check-kept w r p (room-there 2 sizes (netVerdict g) l ∙ sound-not (netVerdict g) g r (sym q ∙ t))
+        check-kept w r p (room-there (netVerdict g) 2 sizes l ∙ sound-not (netVerdict g) g r (sym q ∙ t))
 
     pub check-sound : (s : Sizes) → a ≡ Sound s → (after : List ℕ) → after ≡ answered (s .nodes ∷ s .links ∷ []) sizes → Check 0 after
     unfolding checked checkSaid sizesRow told
     check-sound s t after p =
         let is = sound-is (netVerdict g) g s (sym q ∙ t) in
-        let taken : checkSaid g sizes ≡ Taken = room-there 2 sizes (netVerdict g) l ∙ is .0 in
+        let taken : checkSaid g sizes ≡ Taken = room-there (netVerdict g) 2 sizes l ∙ is .0 in
         (done-word _ taken, p ∙ (ap (λ (k : Sizes). answered (k .nodes ∷ k .links ∷ []) sizes) (is .1) ∙ got _ _ _ taken))
 
 -- the map
@@ -82,16 +87,18 @@ module _ (g : Net) (words row : List ℕ) where
   unfolding wordsRow openRow told
   map-kept w r q t = (told-word _ w r t q, kept _ _ _ r t, kept _ _ _ r t)
 
-  pub map-short : length row < 2 → (w : ℕ) → w ≡ wordOf (refused NoRoom 0) → Map w words row
-  unfolding mapSaid
-  map-short l w q = map-kept w _ q (room-lacks 2 row (mapVerdict g words) l)
+  pub map-short : length row < 2 → (w : ℕ) → w ≡ wordOf (firstly (netVerdict g ∷ refused NoRoom 0 ∷ [])) → Map w words row
+  unfolding mapSaid mapVerdict
+  map-short l w q =
+      let no = ends-refused (netVerdict g) in
+      map-kept w (no .0) (q ∙ ap wordOf (no .1)) (room-lacks (mapVerdict g words) 2 row l ∙ (rooms-one (netVerdict g) _ ∙ no .1))
 
   module _ (l : 2 ≤ length row) (a : MapAnswer) (q : a ≡ mapAnswer g words) (words′ : List ℕ) (e : words′ ≡ mapRow g words) where
     pub map-refused : (r : Refusal) → a ≡ map.Not r → (w : ℕ) → w ≡ wordOf (Refused r) → Map w words′ row
     unfolding mapAnswer mapSaid mapRow
     map-refused r t w p =
         let no = map-not (mapVerdict g words) (toldOf g) r (sym q ∙ t) in
-        let kept = map-kept w r p (room-there 2 row (mapVerdict g words) l ∙ no) in
+        let kept = map-kept w r p (room-there (mapVerdict g words) 2 row l ∙ no) in
         let same : mapRow g words ≡ words = rw no in
         (kept .0, e ∙ (same ∙ kept .1), kept .2)
 
@@ -99,7 +106,7 @@ module _ (g : Net) (words row : List ℕ) where
     unfolding mapAnswer mapSaid toldOf wordsRow openRow told
     map-taken s t row′ p =
         let is = map-is (mapVerdict g words) (toldOf g) s (sym q ∙ t) in
-        let taken : mapSaid g words row ≡ Taken = room-there 2 row (mapVerdict g words) l ∙ is .0 in
+        let taken : mapSaid g words row ≡ Taken = room-there (mapVerdict g words) 2 row l ∙ is .0 in
         (done-word _ taken, e ∙ got _ _ _ taken, p ∙ (ap (λ (k : Unprotected). answered (k .count ∷ k .lowest ∷ []) row) (is .1) ∙ got _ _ _ taken))
 
 -- the writer
@@ -112,16 +119,18 @@ module _ (g : Net) (file size : List ℕ) where
   unfolding fileRow lengthRow told
   write-kept w r q t = (told-word _ w r t q, kept _ _ _ r t, kept _ _ _ r t)
 
-  pub write-short : length size < 1 → (w : ℕ) → w ≡ wordOf (refused NoRoom 0) → Write w file size
-  unfolding writeSaid
-  write-short l w q = write-kept w _ q (room-lacks 1 size (writeVerdict g file) l)
+  pub write-short : length size < 1 → (w : ℕ) → w ≡ wordOf (firstly (netVerdict g ∷ refused NoRoom 0 ∷ [])) → Write w file size
+  unfolding writeSaid writeVerdict
+  write-short l w q =
+      let no = ends-refused (netVerdict g) in
+      write-kept w (no .0) (q ∙ ap wordOf (no .1)) (room-lacks (writeVerdict g file) 1 size l ∙ (rooms-one (netVerdict g) _ ∙ no .1))
 
   module _ (l : 1 ≤ length size) (a : WriteAnswer) (q : a ≡ writeAnswer g file) (file′ : List ℕ) (e : file′ ≡ writtenRow g file) where
     pub write-refused : (r : Refusal) → a ≡ write.Not r → (w : ℕ) → w ≡ wordOf (Refused r) → Write w file′ size
     unfolding writeAnswer writeSaid writtenRow
     write-refused r t w p =
         let no = write-not (writeVerdict g file) (fileLength g) r (sym q ∙ t) in
-        let kept = write-kept w r p (room-there 1 size (writeVerdict g file) l ∙ no) in
+        let kept = write-kept w r p (room-there (writeVerdict g file) 1 size l ∙ no) in
         let same : writtenRow g file ≡ file = rw no in
         (kept .0, e ∙ (same ∙ kept .1), kept .2)
 
@@ -129,7 +138,7 @@ module _ (g : Net) (file size : List ℕ) where
     unfolding writeAnswer writeSaid fileRow lengthRow told
     write-taken s t size′ p =
         let is = write-is (writeVerdict g file) (fileLength g) s (sym q ∙ t) in
-        let taken : writeSaid g file size ≡ Taken = room-there 1 size (writeVerdict g file) l ∙ is .0 in
+        let taken : writeSaid g file size ≡ Taken = room-there (writeVerdict g file) 1 size l ∙ is .0 in
         (done-word _ taken, e ∙ got _ _ _ taken, p ∙ (ap (λ (k : ℕ). answered (k ∷ []) size) (is .1) ∙ got _ _ _ taken))
 
 -- the reader
@@ -149,18 +158,26 @@ module _ (file links parents entries header : List ℕ) where
       let same : lent ≡ rowsLeft file lent header = kept _ _ _ r t in
       (told-word _ w r t q, ap (λ (k : Rows). k .links) same, ap (λ (k : Rows). k .parents) same, ap (λ (k : Rows). k .entries) same, kept _ _ _ r t)
 
-  pub read-short : length header < 4 → (w : ℕ) → w ≡ wordOf (refused NoRoom 0) → Read w links parents entries header
+  pub read-short :
+      length header < 4
+      → (v : Verdict) → v ≡ readVerdict file (lentRows [] [] []) → (w : ℕ) → w ≡ wordOf v → Read w links parents entries header
   unfolding readSaid
-  read-short l w q = read-kept w _ q (room-lacks 4 header (readVerdict file lent) l)
+  read-short l v p w q =
+      let no = unlent-refused file in
+      read-kept w (no .0) (q ∙ ap wordOf (p ∙ no .1)) (rw (lt-ltb (length header) 4 l) (no .1))
 
   module _ (l : 4 ≤ length header) (a : ReadAnswer) (q : a ≡ readAnswer file lent) (links′ parents′ entries′ : List ℕ)
       (e : links′ ≡ rowsRead file lent .links) (f : parents′ ≡ rowsRead file lent .parents)
       (h : entries′ ≡ rowsRead file lent .entries) where
+    room-full : readSaid file lent header ≡ readVerdict file lent
+    unfolding readSaid
+    room-full = rw (le-ltb (length header) 4 l)
+
     pub read-refused : (r : Refusal) → a ≡ read.Not r → (w : ℕ) → w ≡ wordOf (Refused r) → Read w links′ parents′ entries′ header
     unfolding readAnswer readSaid rowsRead
     read-refused r t w p =
         let no = read-not (readVerdict file lent) (headRead file) r (sym q ∙ t) in
-        let kept = read-kept w r p (room-there 4 header (readVerdict file lent) l ∙ no) in
+        let kept = read-kept w r p (room-full ∙ no) in
         let same : rowsRead file lent ≡ lent = rw no in (
           kept .0,
           e
@@ -179,7 +196,7 @@ module _ (file links parents entries header : List ℕ) where
     unfolding readAnswer readSaid headRead rowsLeft headerRow told
     read-taken s t header′ p =
         let is = read-is (readVerdict file lent) (headRead file) s (sym q ∙ t) in
-        let taken : readSaid file lent header ≡ Taken = room-there 4 header (readVerdict file lent) l ∙ is .0 in
+        let taken : readSaid file lent header ≡ Taken = room-full ∙ is .0 in
         let same : rowsRead file lent ≡ rowsLeft file lent header = got _ _ _ taken in (
           done-word _ taken,
           e

@@ -3,3 +3,4 @@ pub mod Telling
 pub mod Answering
 pub mod Words
 pub mod Places
+pub mod Outcomes

@@ -34,7 +34,7 @@ use Rattle.archive.specs.Parts.{blocksFor, blockCount}
 use Rattle.archive.specs.Writer.{writeVerdict}
 use Rattle.archive.specs.Reader.{nodesRead, linksRead, searchRead, netRead, Rows, blockRefusal, headVerdict, restVerdict, readVerdict}
 use Rattle.archive.proofs.Reading.{nodes-read, links-read}
-use Rattle.doeragyeol.specs.Word.{placeMost, wordOf, roomFirst}
+use Rattle.doeragyeol.specs.Word.{placeMost, wordOf, thenRoom}
 use Rattle.doeragyeol.specs.Calls.{checkSaid, mapSaid, writeSaid, readSaid}
 use Rattle.doeragyeol.proofs.Words.{place-back}
 
@@ -107,15 +107,15 @@ net-placed g =
 roomed : (g : Net) (b : Bool) → Placed (firstly (netVerdict g ∷ refuseIf b NoRoom 0 ∷ []))
 roomed g b = next _ _ (net-placed g) (λ a. next _ _ (at-zero b NoRoom) (λ d. end))
 
--- a room for values and then the rest
-first-placed : (n : ℕ) (row : List ℕ) (v : Verdict) → Placed v → Placed (roomFirst n row v)
-unfolding roomFirst
-first-placed n row v p = next _ _ (at-zero _ NoRoom) (λ a. next _ _ p (λ b. end))
+-- a check and then a room for values
+then-placed : (v : Verdict) (n : ℕ) (row : List ℕ) → Placed v → Placed (thenRoom v n row)
+unfolding thenRoom
+then-placed v n row p = next _ _ p (λ a. next _ _ (at-zero _ NoRoom) (λ b. end))
 
 -- the six calls
 pub check-placed : (g : Net) (row : List ℕ) → Placed (checkSaid g row)
 unfolding checkSaid
-check-placed g row = first-placed 2 row (netVerdict g) (net-placed g)
+check-placed g row = then-placed (netVerdict g) 2 row (net-placed g)
 
 pub table-placed : (g : Net) (row : List ℕ) → Placed (tableVerdict g row)
 unfolding tableVerdict
@@ -123,7 +123,7 @@ table-placed g row = roomed g _
 
 pub map-placed : (g : Net) (words row : List ℕ) → Placed (mapSaid g words row)
 unfolding mapSaid mapVerdict
-map-placed g words row = first-placed 2 row (mapVerdict g words) (roomed g _)
+map-placed g words row = then-placed (mapVerdict g words) 2 row (roomed g _)
 
 -- a link that 11 leaves
 there-placed : (g : Net) (entries : List ℕ) (e : ℕ) → tableVerdict g entries ≡ Taken → refuseIf (leb (g .links) e) LinkMissing 0 ≡ Taken → e ≤ placeMost
@@ -142,7 +142,7 @@ change-placed g entries c =
 
 pub write-placed : (g : Net) (file row : List ℕ) → Placed (writeSaid g file row)
 unfolding writeSaid writeVerdict
-write-placed g file row = first-placed 1 row (writeVerdict g file) (roomed g _)
+write-placed g file row = then-placed (writeVerdict g file) 1 row (roomed g _)
 
 -- a block, asked for by a number that a word holds
 block-placed : (file : List ℕ) (n m i : ℕ) → i ≤ placeMost → Placed (blockRefusal file n m i)
@@ -181,6 +181,10 @@ module _ (file : List ℕ) (rows : Rows) where
         (λ d. next _ _ (at-zero _ NoRoom)
         (λ e. next _ _ (at-placed _ (nodesRead file) BadEntry (omega (arith, nodes-few))) (λ f. end)))))
 
-  pub read-placed : (row : List ℕ) → Placed (readSaid file rows row)
-  unfolding readSaid readVerdict
-  read-placed row = first-placed 4 row (readVerdict file rows) (next _ _ head-placed (λ t. next _ _ (rest-placed t) (λ a. end)))
+  file-placed : Placed (readVerdict file rows)
+  unfolding readVerdict
+  file-placed = next _ _ head-placed (λ t. next _ _ (rest-placed t) (λ a. end))
+
+pub read-placed : (file : List ℕ) (rows : Rows) (row : List ℕ) → Placed (readSaid file rows row)
+unfolding readSaid
+read-placed file rows row = file-placed file _

@@ -1,6 +1,7 @@
 -- What a verdict is by the answer that was told of it, and by the room of the row that was lent for values. Assumes nothing.
-use mathlib.Core.Path.{_≡_, refl}
-use mathlib.Core.List.{List}
+use mathlib.Core.Path.{_≡_, refl, sym, ap, _∙_}
+use mathlib.Core.Bool.{Bool, true, false}
+use mathlib.Core.List.{List, [], _∷_}
 use Prim.Native.Nat.{ℕ, _<_, _≤_}
 use native.Mathlib.Omega.{arith}
 use lib.ListN.{length}
@@ -11,11 +12,11 @@ use Rattle.edition.specs.declared.Verdict.the-variants.{Taken, Refused}
 use Rattle.edition.specs.declared.Why.the-variants.{NoRoom}
 use Rattle.edition.specs.Refusals.{refused}
 use Rattle.rows.specs.First.{refuseIf, firstly}
-use Rattle.rows.proofs.Refusing.{only-one}
 use Rattle.network.specs.Network.{Net}
 use Rattle.sound.specs.declared.Sizes.{Sizes}
+use Rattle.sound.specs.declared.Checked.{Checked}
 use Rattle.sound.specs.declared.Checked.the-variants.{Sound, Unsound}
-use Rattle.sound.specs.Sound.{answerOf}
+use Rattle.sound.specs.Sound.{netVerdict, answerOf, checked}
 use Rattle.map.specs.declared.Unprotected.{Unprotected}
 use Rattle.map.specs.declared.MapAnswer.the-variants as map
 use Rattle.map.specs.Map.{mapIf}
@@ -24,17 +25,36 @@ use Rattle.archive.specs.declared.WriteAnswer.the-variants as write
 use Rattle.archive.specs.declared.ReadAnswer.the-variants as read
 use Rattle.archive.specs.Writer.{writeIf}
 use Rattle.archive.specs.Reader.{readIf}
-use Rattle.doeragyeol.specs.Word.{roomFirst}
+use Rattle.doeragyeol.specs.Word.{wordOf, thenRoom}
+
+-- a check with nothing behind it
+then-none : (v : Verdict) → firstly (v ∷ Taken ∷ []) ≡ v
+unfolding firstly
+then-none Taken = refl
+then-none (Refused r) = refl
 
 -- the row that was lent for n values
-module _ (n : ℕ) (row : List ℕ) (said : Verdict) where
-  pub room-lacks : length row < n → roomFirst n row said ≡ refused NoRoom 0
-  unfolding roomFirst refuseIf firstly
-  room-lacks l = rw (lt-ltb (length row) n l)
+module _ (said : Verdict) (n : ℕ) (row : List ℕ) where
+  pub room-there : n ≤ length row → thenRoom said n row ≡ said
+  unfolding thenRoom refuseIf
+  room-there l = ap (λ (b : Bool). firstly (said ∷ refuseIf b NoRoom 0 ∷ [])) (le-ltb (length row) n l) ∙ then-none said
 
-  pub room-there : n ≤ length row → roomFirst n row said ≡ said
-  unfolding roomFirst refuseIf firstly
-  room-there l = rw (le-ltb (length row) n l) (only-one said)
+  pub room-lacks : length row < n → thenRoom said n row ≡ firstly (said ∷ refused NoRoom 0 ∷ [])
+  unfolding thenRoom refuseIf
+  room-lacks l = ap (λ (b : Bool). firstly (said ∷ refuseIf b NoRoom 0 ∷ [])) (lt-ltb (length row) n l)
+
+-- where another room was asked before, 10 is 10
+pub rooms-one : (v : Verdict) (b : Bool) → firstly (firstly (v ∷ refuseIf b NoRoom 0 ∷ []) ∷ refused NoRoom 0 ∷ []) ≡ firstly (v ∷ refused NoRoom 0 ∷ [])
+unfolding firstly refuseIf
+rooms-one Taken true = refl
+rooms-one Taken false = refl
+rooms-one (Refused r) b = refl
+
+-- what ends in 10 is refused
+pub ends-refused : (v : Verdict) → (r : Refusal) × (firstly (v ∷ refused NoRoom 0 ∷ []) ≡ Refused r)
+unfolding firstly
+ends-refused Taken = (record { why = NoRoom; place = 0 }, refl)
+ends-refused (Refused r) = (r, refl)
 
 -- the check
 pub sound-is : (v : Verdict) (g : Net) (s : Sizes) → answerOf v g ≡ Sound s → (v ≡ Taken) × (s ≡ record { nodes = g .nodes; links = g .links })
@@ -44,6 +64,16 @@ sound-is (Refused r) g s e = let z : _≡_ {A = ℕ} 0 1 = cc in absurd (omega a
 pub sound-not : (v : Verdict) (g : Net) (r : Refusal) → answerOf v g ≡ Unsound r → v ≡ Refused r
 sound-not Taken g r e = let z : _≡_ {A = ℕ} 0 1 = cc in absurd (omega arith)
 sound-not (Refused q) g r e = cc
+
+-- the word where a row for values is too short
+module _ (g : Net) (a : Checked) (q : a ≡ checked g) where
+  pub short-sound : (s : Sizes) → a ≡ Sound s → (w : ℕ) → w ≡ wordOf (refused NoRoom 0) → w ≡ wordOf (firstly (netVerdict g ∷ refused NoRoom 0 ∷ []))
+  unfolding checked firstly
+  short-sound s t w p = p ∙ sym (ap (λ (v : Verdict). wordOf (firstly (v ∷ refused NoRoom 0 ∷ []))) (sound-is (netVerdict g) g s (sym q ∙ t) .0))
+
+  pub short-unsound : (r : Refusal) → a ≡ Unsound r → (w : ℕ) → w ≡ wordOf (Refused r) → w ≡ wordOf (firstly (netVerdict g ∷ refused NoRoom 0 ∷ []))
+  unfolding checked firstly
+  short-unsound r t w p = p ∙ sym (ap (λ (v : Verdict). wordOf (firstly (v ∷ refused NoRoom 0 ∷ []))) (sound-not (netVerdict g) g r (sym q ∙ t)))
 
 -- the map
 pub map-is : (v : Verdict) (t s : Unprotected) → mapIf v t ≡ map.Is s → (v ≡ Taken) × (s ≡ t)

@@ -7,6 +7,9 @@ ghost use lib.ListN.{length};
 ghost use Rattle.edition.specs.declared.Verdict.the-variants.{Refused};
 ghost use Rattle.edition.specs.declared.Why.the-variants.{NoRoom};
 ghost use Rattle.edition.specs.Refusals.{refused};
+ghost use Rattle.rows.specs.First.{firstly};
+ghost use Rattle.network.specs.Network.{netOf};
+ghost use Rattle.sound.specs.Sound.{netVerdict};
 ghost use Rattle.table.specs.Table.{tableVerdict, tableRow};
 ghost use Rattle.change.specs.Change.{changeVerdict, Lent, changed};
 ghost use Rattle.edition.specs.declared.Change.{Change};
@@ -25,7 +28,7 @@ use map::MapAnswer;
 use sound::Checked;
 
 // The version of the interface: what the header declares. A landing that changes that raises it, here and in the name below.
-const VERSION: u32 = 1;
+const VERSION: u32 = 2;
 
 // The word of a call that is not refused.
 const DONE: u32 = 0;
@@ -82,6 +85,18 @@ fn word(said: Verdict) -> u32
     }
 }
 
+// The word where a row for values is too short: the first refusal of 1 to 9, and else 10.
+fn short_word(links: &[u16], parents: &[u16], search: Search) -> u32
+    ensures { λ r.
+        let g = netOf (now (links .entry)) (now (parents .entry)) search in
+        ⌜ r ≡ wordOf (firstly (netVerdict g ∷ refused NoRoom 0 ∷ [])) ⌝ }
+{
+    match sound::check_network(links, parents, search) {
+        Checked::Sound(_) => no_room_word(),
+        Checked::Unsound(why) => refusal_word(why),
+    }
+}
+
 // Puts a value at the beginning of a row.
 fn put_one(row: &mut [u64], a: u64)
     requires { ⌜ 1 ≤ length (now row) ⌝ }
@@ -114,7 +129,7 @@ fn put_header(row: &mut [u64], head: Header)
 
 // The version of the interface. The name ends with it, so that a caller made for another version does not link.
 #[no_mangle]
-pub extern "C" fn doeragyeol_version_1() -> u32
+pub extern "C" fn doeragyeol_version_2() -> u32
     ensures { λ r. ⌜ r ≡ version ⌝ }
 {
     VERSION
@@ -135,7 +150,7 @@ pub extern "C" fn doeragyeol_check(
         × (now (sizes .exit) ≡ sizesRow g (now (sizes .entry))) ⌝ }
 {
     if sizes.len() < SIZES {
-        return no_room_word();
+        return short_word(links, parents, Search { root, depth });
     }
     match sound::check_network(links, parents, Search { root, depth }) {
         Checked::Sound(told) => {
@@ -175,12 +190,14 @@ pub extern "C" fn doeragyeol_map(
 ) -> u32
     ensures { λ r.
         let g = lentNet (now (links .entry)) (now (parents .entry)) root depth in
-        ⌜ (r ≡ wordOf (mapSaid g (now (words .entry)) (now (told .entry))))
-        × (now (words .exit) ≡ wordsRow g (now (words .entry)) (now (told .entry)))
-        × (now (told .exit) ≡ openRow g (now (words .entry)) (now (told .entry))) ⌝ }
+        let words′ = now (words .entry) in
+        let told′ = now (told .entry) in
+        ⌜ (r ≡ wordOf (mapSaid g words′ told′))
+        × (now (words .exit) ≡ wordsRow g words′ told′)
+        × (now (told .exit) ≡ openRow g words′ told′) ⌝ }
 {
     if told.len() < TOLD {
-        return no_room_word();
+        return short_word(links, parents, Search { root, depth });
     }
     match map::unprotected_map(links, parents, Search { root, depth }, words) {
         MapAnswer::Is(counted) => {
@@ -228,12 +245,14 @@ pub extern "C" fn doeragyeol_write(
 ) -> u32
     ensures { λ r.
         let g = lentNet (now (links .entry)) (now (parents .entry)) root depth in
-        ⌜ (r ≡ wordOf (writeSaid g (now (file .entry)) (now (size .entry))))
-        × (now (file .exit) ≡ fileRow g (now (file .entry)) (now (size .entry)))
-        × (now (size .exit) ≡ lengthRow g (now (file .entry)) (now (size .entry))) ⌝ }
+        let file′ = now (file .entry) in
+        let size′ = now (size .entry) in
+        ⌜ (r ≡ wordOf (writeSaid g file′ size′))
+        × (now (file .exit) ≡ fileRow g file′ size′)
+        × (now (size .exit) ≡ lengthRow g file′ size′) ⌝ }
 {
     if size.len() < SIZE {
-        return no_room_word();
+        return short_word(links, parents, Search { root, depth });
     }
     match archive::write(links, parents, Search { root, depth }, file) {
         WriteAnswer::Is(bytes) => {
@@ -256,14 +275,17 @@ pub extern "C" fn doeragyeol_read(
 ) -> u32
     ensures { λ r.
         let rows = lentRows (now (links .entry)) (now (parents .entry)) (now (entries .entry)) in
-        ⌜ (r ≡ wordOf (readSaid (now (file .entry)) rows (now (header .entry))))
-        × (now (links .exit) ≡ rowsLeft (now (file .entry)) rows (now (header .entry)) .links)
-        × (now (parents .exit) ≡ rowsLeft (now (file .entry)) rows (now (header .entry)) .parents)
-        × (now (entries .exit) ≡ rowsLeft (now (file .entry)) rows (now (header .entry)) .entries)
-        × (now (header .exit) ≡ headerRow (now (file .entry)) rows (now (header .entry))) ⌝ }
+        let file′ = now (file .entry) in
+        let header′ = now (header .entry) in
+        let left = rowsLeft file′ rows header′ in
+        ⌜ (r ≡ wordOf (readSaid file′ rows header′))
+        × (now (links .exit) ≡ left .links)
+        × (now (parents .exit) ≡ left .parents)
+        × (now (entries .exit) ≡ left .entries)
+        × (now (header .exit) ≡ headerRow file′ rows header′) ⌝ }
 {
     if header.len() < HEADER {
-        return no_room_word();
+        return word(archive::check_read(file, &links[0..0], &parents[0..0], &entries[0..0]));
     }
     match archive::read(file, links, parents, entries) {
         ReadAnswer::Is(head) => {

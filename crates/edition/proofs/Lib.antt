@@ -1,1 +1,3 @@
 pub mod Within
+pub mod Only
+pub mod Outcomes

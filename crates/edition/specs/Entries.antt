@@ -6,16 +6,19 @@ use Rattle.edition.specs.declared.Measure.{Measure}
 use Rattle.edition.specs.declared.Measure.the-variants.{Sum, Incr, Max}
 use Rattle.edition.specs.Limits.{noLink}
 
--- The states: 0 root; 1 swap; 2 links cross but none within the depth; 3 bridge, nothing crosses.
+-- State 0: the root.
 abbrev pub rootState : ℕ
 rootState = 0
 
+-- State 1: there is a swap link.
 abbrev pub swapState : ℕ
 swapState = 1
 
+-- State 2: links cross, but none within the depth.
 abbrev pub noneState : ℕ
 noneState = 2
 
+-- State 3: bridge, nothing crosses.
 abbrev pub bridgeState : ℕ
 bridgeState = 3
 

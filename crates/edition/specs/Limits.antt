@@ -27,6 +27,7 @@ linkLimit = 2048
 abbrev pub depthLimit : ℕ
 depthLimit = 510
 
+-- What memory holds itself to.
 abbrev pub memoryLimits : Limits
 memoryLimits = record { nodes = nodeLimit; links = linkLimit; depth = depthLimit }
 
@@ -42,10 +43,11 @@ wayLimit = (nodeLimit - 1) * longest
 abbrev pub sumLimit : ℕ
 sumLimit = (nodeLimit - 1) * wayLimit
 
--- The service mark of a link in service, and of one that is withdrawn.
+-- The service mark of a link in service.
 abbrev pub served : ℕ
 served = 1
 
+-- The service mark of a link that is withdrawn.
 abbrev pub withdrawn : ℕ
 withdrawn = 0
 
@@ -57,16 +59,18 @@ linkWidth = 4
 abbrev pub entryWidth : ℕ
 entryWidth = 7
 
--- Numbers in the longest rows: of links, of entries.
+-- Numbers in the longest row of links.
 abbrev pub linkRoom : ℕ
 linkRoom = linkLimit * linkWidth
 
+-- Numbers in the longest row of entries.
 abbrev pub entryRoom : ℕ
 entryRoom = nodeLimit * entryWidth
 
--- The map has eight words of 64 bits.
+-- The map has eight words.
 abbrev pub mapWords : ℕ
 mapWords = 8
 
+-- A word of the map has 64 bits.
 abbrev pub wordBits : ℕ
 wordBits = 64

@@ -1,4 +1,5 @@
 -- The refusal numbers of document 01, in one table. Assumes nothing.
+use mathlib.Core.List.{List, [], _∷_}
 use Prim.Native.Nat.{ℕ}
 use Rattle.edition.specs.declared.Why.{Why}
 use Rattle.edition.specs.declared.Why.the-variants.{NodeCount, LinkCount, BadRoot, BadDepth, BadEnds, BadMark, BadParent, NoRoute, NotShort}
@@ -30,7 +31,12 @@ numberOf BadEntry = 24
 abbrev pub refused : Why → ℕ → Verdict
 refused why place = Refused (record { why = why; place = place })
 
+-- A verdict in numbers: 0 and 0 where it is taken, else the refusal's number and place.
+unfoldable pub said : Verdict → List ℕ
+said Taken = 0 ∷ 0 ∷ []
+said (Refused r) = numberOf (r .why) ∷ r .place ∷ []
+
 -- The first where the verdict is taken, the second where it refuses.
-abbrev pub made : {A : Type 0} → Verdict → A → A → A
-made Taken x y = x
-made (Refused r) x y = y
+abbrev pub ifTaken : {A : Type 0} → Verdict → A → A → A
+ifTaken Taken x y = x
+ifTaken (Refused r) x y = y

@@ -6,56 +6,67 @@ use Rattle.edition.specs.declared.Limits.{Limits}
 abbrev pub editionOne : ℕ
 editionOne = 1
 
--- What an edition 1 file can hold: nodes, links, and the largest depth.
+-- So many nodes an edition 1 file can hold.
 abbrev pub storedNodes : ℕ
 storedNodes = 512
 
+-- So many links.
 abbrev pub storedLinks : ℕ
 storedLinks = 2048
 
+-- The largest depth that is not the whole search.
 abbrev pub storedDepth : ℕ
 storedDepth = 510
 
+-- What an edition 1 file can hold.
 abbrev pub editionLimits : Limits
 editionLimits = record { nodes = storedNodes; links = storedLinks; depth = storedDepth }
 
--- A block is 512 bytes: 8 in front, then the payload.
+-- A block is 512 bytes.
 abbrev pub blockBytes : ℕ
 blockBytes = 512
 
+-- 8 of them stand in front: kind, edition, number, used count, check.
 abbrev pub frontBytes : ℕ
 frontBytes = 8
 
+-- The rest is the payload.
 abbrev pub payloadBytes : ℕ
 payloadBytes = blockBytes - frontBytes
 
--- Byte 0 of a block: header, links or table.
+-- Byte 0 of the header block, H.
 abbrev pub headerKind : ℕ
 headerKind = 0x48
 
+-- Byte 0 of a block of links, L.
 abbrev pub linksKind : ℕ
 linksKind = 0x4c
 
+-- Byte 0 of a block of the table, T.
 abbrev pub tableKind : ℕ
 tableKind = 0x54
 
--- Bytes of a header's record, a link's and an entry's.
+-- Bytes of the header's record.
 abbrev pub headerBytes : ℕ
 headerBytes = 8
 
+-- Bytes of a link's record.
 abbrev pub linkBytes : ℕ
 linkBytes = 8
 
+-- Bytes of an entry's record.
 abbrev pub entryBytes : ℕ
 entryBytes = 28
 
--- Records in a full block of each kind.
+-- Records in the header block.
 abbrev pub headersABlock : ℕ
 headersABlock = 1
 
+-- Links in a full block.
 abbrev pub linksABlock : ℕ
 linksABlock = 63
 
+-- Entries in a full block.
 abbrev pub entriesABlock : ℕ
 entriesABlock = 18
 

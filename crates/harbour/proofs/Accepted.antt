@@ -16,7 +16,7 @@ use Rattle.network.specs.Records.{sizeVerdict}
 use Rattle.network.proofs.Sizes.{sizes-grow}
 use Rattle.sound.specs.Sound.{netVerdict}
 use Rattle.archive.specs.Writer.{fileOf}
-use Rattle.archive.specs.Reader.{Rows, tight, readVerdict}
+use Rattle.archive.specs.Reader.{Rows, tooShort, readVerdict}
 use Rattle.archive.proofs.WrittenAccepted.{written-accepted}
 
 -- today memory's limits are within edition 1's too
@@ -35,7 +35,7 @@ sizes-fit links parents search ok =
 pub sound-accepted :
     (links parents : List ℕ) (search : Search)
     → netVerdict (netOf links parents search) ≡ Taken → ((i : ℕ) → getD links i 0 ≤ longest) → (rows : Rows)
-    → tight (length parents) (linksIn links) rows ≡ false
+    → tooShort (length parents) (linksIn links) rows ≡ false
     → readVerdict (fileOf (netOf links parents search)) rows ≡ Taken
 sound-accepted links parents search ok held rows room =
     written-accepted links parents search ok (sizes-fit links parents search ok) held rows room

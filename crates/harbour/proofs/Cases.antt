@@ -5,31 +5,31 @@ use mathlib.Core.List.{List, [], _∷_}
 use Rattle.rows.proofs.Tests.{and-left, and-right}
 use Rattle.rows.proofs.Listed.{same-equal}
 use Rattle.harbour.specs.Harbour.{Case, _gives_, links, parents, at, harbour, alone, rootEntry, bridge, one, two, three, right, wrong, nine}
-use Rattle.harbour.specs.Harbour.{linksSeven, linksNine, twoSeven, oneNine, twoNine, said, room, after, answer, cases, holds}
-use Rattle.edition.specs.Refusals.{numberOf}
+use Rattle.harbour.specs.Harbour.{linksSeven, linksNine, twoSeven, oneNine, twoNine, room, after, answer, cases, holds}
+use Rattle.edition.specs.Refusals.{numberOf, said}
 use Rattle.rows.specs.Count.{sumTo, maxTo, someTo, rowsTo, onlyIf, rowWith}
-use Rattle.rows.specs.First.{beats, bestTo, firstTo, foundOr, refusedAt, refuseAt, refuseIf, firstly}
+use Rattle.rows.specs.First.{orHere, firstTo, foundOr, refusedAt, refuseAt, refuseIf, firstly}
 use Rattle.rows.specs.Lists.{has, upTo, firstOf, total, same}
 use Rattle.network.specs.Network.{linkRow, linkFrom, linkIn, putLink, netOf, isParent, inService, touches, otherEnd}
 use Rattle.network.specs.Records.{badNodes, badLinks, badRoot, badDepth, sizeVerdict, badEnds, badMark, unfit, badParent}
 use Rattle.tree.specs.Tree.{treeOf, climb, route, arrives, hasRoute, dist, under, hops, wayUp, meet, apart, onPath}
 use Rattle.sound.specs.Sound.{noRoute, keepsShort, short, notShort, recordVerdict, netVerdict, checked}
-use Rattle.swap.specs.Swap.{lower, upper, crosses, within, candidate, newDist, inside, cost, costOf, offer, better, before, bestSwap}
-use Rattle.swap.specs.Entry.{crossed, saved, stateBelow, state, priced, swapOf, entry}
+use Rattle.swap.specs.Swap.{innerEnd, outerEnd, crosses, within, candidate, newDist, inside, cost, costOf, before, best}
+use Rattle.swap.specs.Entry.{crossed, hasCandidate, state, priced, swapOf, entry}
 use Rattle.rows.specs.Records.{recordIn, withRecord, pastRecords}
 use Rattle.entries.specs.Row.{entryRow, standing, pastEntries}
-use Rattle.table.specs.Table.{table, tableVerdict, tableRow, marked, freshAt, freshRow}
-use Rattle.map.specs.Map.{unprotected, word, mapOf, ones, lowest, mapVerdict, mapRow}
+use Rattle.table.specs.Table.{table, tableVerdict, tableRow, isAsked, freshAt, freshRow}
+use Rattle.map.specs.Map.{unprotected, word, mapOf, countUnprotected, lowest, mapVerdict, mapRow}
 use Rattle.change.specs.Change.{breaks, changeVerdict, setLink, mendedAt, mended, changed}
 
 pub harbour-cases : holds cases ≡ true
-unfolding numberOf entryRow sumTo maxTo someTo rowsTo onlyIf rowWith beats bestTo firstTo foundOr refusedAt refuseAt
+unfolding numberOf entryRow sumTo maxTo someTo rowsTo onlyIf rowWith orHere firstTo foundOr refusedAt refuseAt
     refuseIf firstly has upTo firstOf total same recordIn withRecord pastRecords standing pastEntries linkRow linkFrom
     linkIn putLink netOf inService touches otherEnd badNodes badLinks badRoot badDepth sizeVerdict badEnds badMark unfit
     badParent treeOf climb route arrives hasRoute dist under hops wayUp meet apart onPath noRoute keepsShort short
-    notShort recordVerdict netVerdict checked lower upper crosses within candidate newDist inside cost costOf offer
-    better before bestSwap crossed saved stateBelow state priced swapOf entry table tableVerdict tableRow marked freshAt
-    freshRow unprotected word mapOf ones lowest mapVerdict mapRow isParent breaks changeVerdict setLink mendedAt mended
+    notShort recordVerdict netVerdict checked innerEnd outerEnd crosses within candidate newDist inside cost costOf before
+    best crossed hasCandidate state priced swapOf entry table tableVerdict tableRow isAsked freshAt
+    freshRow unprotected word mapOf countUnprotected lowest mapVerdict mapRow isParent breaks changeVerdict setLink mendedAt mended
     changed links parents at harbour alone rootEntry bridge one two three right wrong nine linksSeven linksNine twoSeven
     oneNine twoNine said room after answer cases holds
 harbour-cases = refl

@@ -4,21 +4,19 @@ use mathlib.Core.List.{List, [], _∷_, _++_}
 use Prim.Native.Nat.{ℕ}
 use lib.ListN.{replicate}
 use Rattle.entries.specs.Row.{entryRow}
-use Rattle.edition.specs.declared.Verdict.{Verdict}
-use Rattle.edition.specs.declared.Verdict.the-variants.{Taken, Refused}
 use Rattle.edition.specs.declared.Search.{Search}
 use Rattle.edition.specs.declared.Change.{Change}
 use Rattle.edition.specs.Limits.{noLink, noNode, wholeSearch, mapWords}
-use Rattle.edition.specs.Refusals.{numberOf}
+use Rattle.edition.specs.Refusals.{said}
 use Rattle.rows.specs.Count.{rowsTo}
 use Rattle.rows.specs.Lists.{same}
 use Rattle.network.specs.Network.{Net, netOf}
 use Rattle.swap.specs.Entry.{entry}
 use Rattle.table.specs.Table.{tableVerdict, tableRow}
-use Rattle.map.specs.Map.{mapVerdict, mapRow, ones, lowest}
+use Rattle.map.specs.Map.{mapVerdict, mapRow, countUnprotected, lowest}
 use Rattle.change.specs.Change.{changeVerdict, changed, Lent}
 
--- Links as two ends, length and service mark; parent links of nodes 0 to 4.
+-- Links 0 to 6: two ends, length, service mark.
 unfoldable pub links : List ℕ
 links =
     0 ∷ 1 ∷ 2 ∷ 1 ∷
@@ -29,46 +27,55 @@ links =
     2 ∷ 3 ∷ 4 ∷ 1 ∷
     0 ∷ 4 ∷ 9 ∷ 1 ∷ []
 
+-- The parent links of nodes 0 to 4.
 unfoldable pub parents : List ℕ
 parents = noLink ∷ 0 ∷ 1 ∷ 2 ∷ 6 ∷ []
 
+-- Root 0, at a depth.
 unfoldable pub at : ℕ → Search
 at depth = record { root = 0; depth = depth }
 
+-- The Harbour network at a depth.
 unfoldable pub harbour : ℕ → Net
 harbour depth = netOf links parents (at depth)
 
--- n = 1, m = 0.
+-- One node and no link.
 unfoldable pub alone : Net
 alone = netOf [] (noLink ∷ []) (at wholeSearch)
 
--- Node 0's entry, a bridge's entry, and the table of the whole search: P1 to P4.
+-- The root's entry.
 unfoldable pub rootEntry : List ℕ
 rootEntry = 0 ∷ noLink ∷ noLink ∷ noLink ∷ 0 ∷ 0 ∷ 0 ∷ []
 
+-- A bridge's entry: node 4's, P4.
 unfoldable pub bridge : List ℕ
 bridge = 3 ∷ noLink ∷ noLink ∷ noLink ∷ 0 ∷ 0 ∷ 0 ∷ []
 
+-- The entry of node 1 at the whole search, P1.
 unfoldable pub one : List ℕ
 one = 1 ∷ 3 ∷ 4 ∷ 3 ∷ 25 ∷ 6 ∷ 10 ∷ []
 
+-- The entry of node 2, P2.
 unfoldable pub two : List ℕ
 two = 1 ∷ 3 ∷ 3 ∷ 3 ∷ 6 ∷ 1 ∷ 6 ∷ []
 
+-- The entry of node 3, P3.
 unfoldable pub three : List ℕ
 three = 1 ∷ 4 ∷ 4 ∷ 4 ∷ 7 ∷ 4 ∷ 7 ∷ []
 
+-- The table of the whole search.
 unfoldable pub right : List ℕ
 right = rootEntry ++ one ++ two ++ three ++ bridge
 
--- An entry whose every number is wrong, and a table of such.
+-- An entry whose every number is wrong.
 unfoldable pub nine : List ℕ
 nine = 9 ∷ 9 ∷ 9 ∷ 9 ∷ 9 ∷ 9 ∷ 9 ∷ []
 
+-- A table of wrong entries.
 unfoldable pub wrong : List ℕ
 wrong = nine ++ nine ++ nine ++ nine ++ nine
 
--- The row of links after P7 (link 5 has length 2) and after P9 (link 3 is withdrawn).
+-- The row of links after P7: link 5 has length 2.
 unfoldable pub linksSeven : List ℕ
 linksSeven =
     0 ∷ 1 ∷ 2 ∷ 1 ∷
@@ -79,6 +86,7 @@ linksSeven =
     2 ∷ 3 ∷ 2 ∷ 1 ∷
     0 ∷ 4 ∷ 9 ∷ 1 ∷ []
 
+-- The row of links after P9: link 3 is withdrawn.
 unfoldable pub linksNine : List ℕ
 linksNine =
     0 ∷ 1 ∷ 2 ∷ 1 ∷
@@ -89,13 +97,15 @@ linksNine =
     2 ∷ 3 ∷ 4 ∷ 1 ∷
     0 ∷ 4 ∷ 9 ∷ 1 ∷ []
 
--- Entries after P7 and P9.
+-- The entry of node 2 after P7.
 unfoldable pub twoSeven : List ℕ
 twoSeven = 1 ∷ 5 ∷ 5 ∷ 5 ∷ 5 ∷ 0 ∷ 5 ∷ []
 
+-- The entry of node 1 after P9.
 unfoldable pub oneNine : List ℕ
 oneNine = 1 ∷ 4 ∷ 4 ∷ 4 ∷ 26 ∷ 6 ∷ 11 ∷ []
 
+-- The entry of node 2 after P9.
 unfoldable pub twoNine : List ℕ
 twoNine = 1 ∷ 5 ∷ 5 ∷ 5 ∷ 7 ∷ 2 ∷ 7 ∷ []
 
@@ -110,14 +120,11 @@ pub data Ask : Type 0 where
   -- the verdict on a change at the whole search (link, mark, length) of a table, and the rows of links and entries after it
   change : ℕ → ℕ → ℕ → List ℕ → Ask
 
--- A verdict in numbers: 0 and 0, or a refusal's number and place.
-unfoldable pub said : Verdict → List ℕ
-said Taken = 0 ∷ 0 ∷ []
-said (Refused r) = numberOf (r .why) ∷ r .place ∷ []
-
+-- A row of nines for the entries of a network.
 unfoldable pub room : Net → List ℕ
 room g = rowsTo (λ x. nine) (g .nodes)
 
+-- Both rows that a change leaves, one after the other.
 unfoldable pub after : Lent → List ℕ
 after lent = lent .links ++ lent .entries
 
@@ -125,7 +132,7 @@ after lent = lent .links ++ lent .entries
 unfoldable pub answer : Ask → List ℕ
 answer (entryAt depth x) = entryRow (entry (harbour depth) x)
 answer (tableOf g) = said (tableVerdict g (room g)) ++ tableRow g (room g)
-answer (mapOf g) = said (mapVerdict g (replicate mapWords 9)) ++ mapRow g (replicate mapWords 9) ++ (ones g ∷ lowest g ∷ [])
+answer (mapOf g) = said (mapVerdict g (replicate mapWords 9)) ++ mapRow g (replicate mapWords 9) ++ (countUnprotected g ∷ lowest g ∷ [])
 answer (change e s w entries) =
     let c : Change = record { link = e; mark = s; length = w } in
     said (changeVerdict (harbour wholeSearch) entries c) ++

@@ -1,3 +1,5 @@
 pub mod Packing
 pub mod Whole
 pub mod Wording
+pub mod Bits
+pub mod Outcomes

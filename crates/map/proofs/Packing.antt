@@ -21,6 +21,11 @@ pub only-none : (b : Bool) (v : ℕ) → b ≡ false → onlyIf b v ≡ 0
 unfolding onlyIf
 only-none b v e = rw e
 
+pub only-odd : (b : Bool) → onlyIf b 1 ≤ 1
+unfolding onlyIf
+only-odd true = omega arith
+only-odd false = omega arith
+
 pub bit-small : (b : Bool) (w : ℕ) → w ≡ onlyIf b 1 → w ≤ 1
 bit-small b w q = rw q (only-small b 1 1 (λ e. omega arith))
 
@@ -39,7 +44,7 @@ unfolding packed
 packed-cong p q k h = sum-cong _ _ k (λ j l. ap (λ b. onlyIf b (2 ^ j)) (h j l))
 
 -- the first test is the lowest bit
-shift : (p : ℕ → Bool) (k : ℕ) → packed p (suc k) ≡ onlyIf (p 0) 1 + 2 * packed (λ j. p (suc j)) k
+pub shift : (p : ℕ → Bool) (k : ℕ) → packed p (suc k) ≡ onlyIf (p 0) 1 + 2 * packed (λ j. p (suc j)) k
 unfolding packed sumTo
 shift p zero = omega arith
 shift p (suc k) = omega (arith, shift p k, twice (p (suc k)) k)

@@ -31,7 +31,7 @@ use Rattle.table.proofs.Single.{bareRow, bare-verdict}
 use Rattle.table.proofs.Whole.{table-sound, table-entry}
 use Rattle.map.specs.declared.MapAnswer.{MapAnswer}
 use Rattle.map.specs.declared.MapAnswer.the-variants.{Is, Not}
-use Rattle.map.specs.Map.{unprotected, word, mapOf, ones, lowest, toldOf, mapVerdict, mapAnswer, mapRow}
+use Rattle.map.specs.Map.{unprotected, word, mapOf, countUnprotected, lowest, toldOf, mapVerdict, mapAnswer, mapRow}
 use Rattle.map.specs.Work.{openBy, packed, wordBy, wordsBy, onesIn, lowestIn, tooShort, toldBy, leftBy}
 use Rattle.map.proofs.Packing.{packed-cong}
 use Rattle.map.proofs.Wording.{ones-are, lowest-is}
@@ -99,7 +99,7 @@ module _ (g : Net) where
                 lowestIn (wordsBy (openBy row (g .nodes)) words);
           })
           ≡ Is (toldOf g)
-      unfolding toldOf ones lowest
+      unfolding toldOf countUnprotected lowest
       told-is =
           let counts = ones-are (openBy row (g .nodes)) (g .nodes) few past words ∙ sum-cong _ _ (g .nodes) (λ x l. ap (λ b. onlyIf b 1) (same x)) in
           let lows = lowest-is (openBy row (g .nodes)) (g .nodes) few past words ∙ ap (foundOr noNode) (first-cong _ _ (g .nodes) (λ x l. same x)) in

@@ -77,8 +77,8 @@ sum-none f (suc k) h = omega (arith, sum-none f k (λ j l. h j (omega arith)), h
 
 -- tests that fail from n on
 module _ (p : ℕ → Bool) (n : ℕ) (few : n ≤ mapWords * wordBits) (past : (x : ℕ) → n ≤ x → p x ≡ false) where
-  all-ones : sumTo (λ x. onlyIf (p x) 1) (mapWords * wordBits) ≡ sumTo (λ x. onlyIf (p x) 1) n
-  all-ones =
+  pub sum-tests : sumTo (λ x. onlyIf (p x) 1) (mapWords * wordBits) ≡ sumTo (λ x. onlyIf (p x) 1) n
+  sum-tests =
       let size : mapWords * wordBits ≡ n + (mapWords * wordBits - n) = omega (arith, few) in
       ap (sumTo (λ x. onlyIf (p x) 1)) size
       ∙ (sum-split (λ x. onlyIf (p x) 1) n (mapWords * wordBits - n)
@@ -94,7 +94,7 @@ module _ (p : ℕ → Bool) (n : ℕ) (few : n ≤ mapWords * wordBits) (past : 
     unfolding onesIn wordBy
     ones-are =
         sum-cong _ _ mapWords (λ i l. ap ones (word-is i l) ∙ ones-packed (λ j. p (i * wordBits + j)) wordBits)
-        ∙ (sum-words (λ x. onlyIf (p x) 1) mapWords ∙ all-ones)
+        ∙ (sum-words (λ x. onlyIf (p x) 1) mapWords ∙ sum-tests)
 
     none-in : (i : ℕ) → i < mapWords → someIn (wordsBy p row) i ≡ false → (j : ℕ) → j < wordBits → p (i * wordBits + j) ≡ false
     unfolding someIn wordBy

@@ -8,7 +8,7 @@ use Rattle.edition.specs.declared.Verdict.{Verdict}
 use Rattle.edition.specs.declared.Verdict.the-variants.{Taken, Refused}
 use Rattle.edition.specs.declared.Why.the-variants.{NoRoom}
 use Rattle.edition.specs.Limits.{noNode, mapWords, wordBits}
-use Rattle.edition.specs.Refusals.{made}
+use Rattle.edition.specs.Refusals.{ifTaken}
 use Rattle.edition.specs.Entries.{noneState, bridgeState}
 use Rattle.rows.specs.Count.{sumTo, rowsTo, onlyIf}
 use Rattle.rows.specs.First.{firstTo, foundOr, refuseIf, firstly}
@@ -32,8 +32,8 @@ unfoldable pub mapOf : Net → List ℕ
 mapOf g = rowsTo (λ i. word g i ∷ []) mapWords
 
 -- The number of ones.
-unfoldable pub ones : Net → ℕ
-ones g = sumTo (λ x. onlyIf (unprotected g x) 1) (g .nodes)
+unfoldable pub countUnprotected : Net → ℕ
+countUnprotected g = sumTo (λ x. onlyIf (unprotected g x) 1) (g .nodes)
 
 -- The lowest unprotected node, 65,535 if none.
 unfoldable pub lowest : Net → ℕ
@@ -41,7 +41,7 @@ lowest g = foundOr noNode (firstTo (unprotected g) (g .nodes))
 
 -- What is told of the map beside its words.
 unfoldable pub toldOf : Net → Unprotected
-toldOf g = record { count = ones g; lowest = lowest g }
+toldOf g = record { count = countUnprotected g; lowest = lowest g }
 
 -- 1 to 9, then 10 where fewer than eight words are lent.
 unfoldable pub mapVerdict : Net → List ℕ → Verdict
@@ -52,9 +52,10 @@ abbrev pub mapIf : Verdict → Unprotected → MapAnswer
 mapIf Taken told = Is told
 mapIf (Refused r) told = Not r
 
+-- What the call answers: count and lowest, or the refusal.
 unfoldable pub mapAnswer : Net → List ℕ → MapAnswer
 mapAnswer g row = mapIf (mapVerdict g row) (toldOf g)
 
 -- What the lent row then holds: the map and what lay past it, or on a refusal what it held.
 unfoldable pub mapRow : Net → List ℕ → List ℕ
-mapRow g row = let new = mapOf g ++ drop mapWords row in made (mapVerdict g row) new row
+mapRow g row = let new = mapOf g ++ drop mapWords row in ifTaken (mapVerdict g row) new row

@@ -106,7 +106,8 @@ pub fn parent_of(parents: &[u16], u: usize) -> u16
 // Whether link e is some node's parent link; so is 65,535, which the root names.
 pub fn is_parent(parents: &[u16], e: usize) -> bool
     ensures { λ r.
-        ⌜ r ≡ isParent (λ u. getD (now (parents .entry)) u noLink) (length (now (parents .entry))) e ⌝ }
+        let row = now (parents .entry) in
+        ⌜ r ≡ isParent (λ u. getD row u noLink) (length row) e ⌝ }
 {
     let mut u = 0;
     while u < parents.len() {
@@ -267,7 +268,8 @@ fn first_bad_mark(links: &[u16]) -> Found
 // Refusal 5, of a row of links among n nodes.
 pub fn check_ends(links: &[u16], n: usize) -> Verdict
     ensures { λ r.
-        ⌜ r ≡ refuseAt (λ e. badEnds n (linkIn (now (links .entry)) e)) (linksIn (now (links .entry))) BadEnds ⌝ }
+        let row = now (links .entry) in
+        ⌜ r ≡ refuseAt (λ e. badEnds n (linkIn row e)) (linksIn row) BadEnds ⌝ }
 {
     rows::refused_at(Why::BadEnds, first_bad_ends(links, n))
 }
@@ -275,7 +277,8 @@ pub fn check_ends(links: &[u16], n: usize) -> Verdict
 // Refusal 6, of a row of links.
 pub fn check_marks(links: &[u16]) -> Verdict
     ensures { λ r.
-        ⌜ r ≡ refuseAt (λ e. badMark (linkIn (now (links .entry)) e .mark)) (linksIn (now (links .entry))) BadMark ⌝ }
+        let row = now (links .entry) in
+        ⌜ r ≡ refuseAt (λ e. badMark (linkIn row e .mark)) (linksIn row) BadMark ⌝ }
 {
     rows::refused_at(Why::BadMark, first_bad_mark(links))
 }

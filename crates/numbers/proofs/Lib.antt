@@ -1,3 +1,4 @@
 pub mod Getting
 pub mod Pieces
 pub mod Putting
+pub mod Outcomes

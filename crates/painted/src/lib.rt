@@ -105,12 +105,12 @@ pub extern "C" fn painted_check_parents(
 }
 
 #[no_mangle]
-pub extern "C" fn painted_check_block(kind: u8, number: u16, used: u16, b: &[u8]) -> u64 {
+pub extern "C" fn painted_check_block(kind: u16, number: u16, used: u16, b: &[u8]) -> u64 {
     said(block::check_block(kind, number, used, b))
 }
 
 #[no_mangle]
-pub extern "C" fn painted_payload(kind: u8, number: u16, used: u16, b: &[u8]) -> u64 {
+pub extern "C" fn painted_payload(kind: u16, number: u16, used: u16, b: &[u8]) -> u64 {
     block::payload(kind, number, used, b).len() as u64
 }
 

@@ -1,7 +1,7 @@
 -- `bestTo` finds the number that comes before all others that may stand, the lowest of those that nothing tells apart; there
 -- is only one such. `firstTo` finds the lowest that passes. Assumes nothing.
 use mathlib.Core.Path.{_≡_, refl, ap}
-use mathlib.Core.Bool.{Bool, true, false, cond, _&&_, _||_}
+use mathlib.Core.Bool.{Bool, true, false, cond, not, _&&_, _||_}
 use Prim.Native.Nat.{ℕ, zero, suc, _<_}
 use native.Mathlib.Nat.{not-suc-le-zero}
 use native.Mathlib.Omega.{arith}
@@ -10,7 +10,8 @@ use borrow.Author.Tests.{ltb-true, ltb-false}
 use Rattle.edition.specs.declared.Found.{Found}
 use Rattle.edition.specs.declared.Found.the-variants.{Nothing, At}
 use Rattle.rows.specs.Count.{someTo}
-use Rattle.rows.specs.First.{beats, bestTo, firstTo}
+use Rattle.rows.specs.First.{firstTo, orHere}
+use Rattle.rows.specs.Work.{beats, bestTo}
 use Rattle.rows.proofs.Tests.{clash, lastly, or-false, and-left}
 
 -- b, below k, may stand; nothing that may stand comes before it, and it comes before each lower one that may stand
@@ -144,26 +145,20 @@ module _ (may may′ : ℕ → Bool) (before before′ : ℕ → ℕ → Bool) w
       let ih = best-cong k (λ j l. m j (omega arith)) (λ i j l n. o i j (omega arith) n) in
       rw (← ih, ← m k (omega arith), ← beats-cong k (may k) refl (stands may before k) (λ b l p q. o k b (omega arith) l q p))
 
--- the test by which nothing comes before anything: what `firstTo` goes by
-never : Orders (λ a b. false)
-never = record { asym = λ a b h. refl; through = λ a b c g h. refl }
-
 -- what `firstTo` finds: nothing, or the lowest that passes
 pub data Lowest (p : ℕ → Bool) (k : ℕ) : Found → Type 0 where
   nowhere : ((j : ℕ) → j < k → p j ≡ false) → Lowest p k Nothing
   here : {e : ℕ} → e < k → p e ≡ true → ((j : ℕ) → j < e → p j ≡ false) → Lowest p k (At e)
 
 pub first-is : (p : ℕ → Bool) (k : ℕ) → Lowest p k (firstTo p k)
-unfolding firstTo
-first-is p k = go (best-is p (λ a b. false) never k)
+unfolding firstTo orHere
+first-is p zero = nowhere (λ j h. absurd (not-suc-le-zero h))
+first-is p (suc k) = go (first-is p k) (p k) refl
   where
-    below : {b : ℕ} → IsBest p (λ a b. false) k b → (j : ℕ) → j < b → (t : Bool) → p j ≡ t → p j ≡ false
-    below i j l true e = clash (i .first j l e) refl
-    below i j l false e = e
-
-    go : {f : Found} → Best p (λ a b. false) k f → Lowest p k f
-    go (none h) = nowhere h
-    go (some i) = here (i .low) (i .ok) (λ j l. below i j l (p j) refl)
+    go : {f : Found} → Lowest p k f → (b : Bool) → p k ≡ b → Lowest p (suc k) (orHere f b k)
+    go (nowhere h) true e = here {e = k} (omega arith) e h
+    go (nowhere h) false e = nowhere (lastly (λ j. p j ≡ false) k h e)
+    go (here {e = i} l q h) b e = here {e = i} (omega arith) q h
 
 -- there is only one
 pub first-unique : (p : ℕ → Bool) (k : ℕ) {f g : Found} → Lowest p k f → Lowest p k g → f ≡ g
@@ -209,7 +204,34 @@ one-some p k j l h = go (someTo p k) refl
 -- tests that agree below k find the same
 pub first-cong : (p q : ℕ → Bool) (k : ℕ) → ((j : ℕ) → j < k → p j ≡ q j) → firstTo p k ≡ firstTo q k
 unfolding firstTo
-first-cong p q k h = best-cong p q (λ a b. false) (λ a b. false) k h (λ i j l m x y. refl)
+first-cong p q zero h = refl
+first-cong p q (suc k) h = rw (first-cong p q k (λ j l. h j (omega arith)), h k (omega arith))
+
+-- the best is the first that may stand and that nothing which may stand comes before
+module _ (may : ℕ → Bool) (before : ℕ → ℕ → Bool) (k : ℕ) where
+  beaten : ℕ → Bool
+  beaten e = someTo (λ f. may f && before f e) k
+
+  unbeaten : {b : ℕ} → IsBest may before k b → beaten b ≡ false
+  unfolding beaten
+  unbeaten {b} i = none-some (λ f. may f && before f b) k (λ f l. go f l (may f) refl)
+    where
+      go : (f : ℕ) → f < k → (m : Bool) → may f ≡ m → (may f && before f b) ≡ false
+      go f l true e = rw e (i .least f l e)
+      go f l false e = rw e
+
+  beaten-above : {b : ℕ} → IsBest may before k b → (j : ℕ) → j < b → (m : Bool) → may j ≡ m → (may j && not (beaten j)) ≡ false
+  unfolding beaten
+  beaten-above {b} i j l true e = rw (e, one-some (λ f. may f && before f j) k b (i .low) (rw (i .ok, i .first j l e)))
+  beaten-above i j l false e = rw e
+
+  pub best-first : Orders before → firstTo (λ e. may e && not (someTo (λ f. may f && before f e) k)) k ≡ bestTo may before k
+  unfolding beaten
+  best-first o = first-unique _ k (first-is _ k) (go (best-is may before o k))
+    where
+      go : {f : Found} → Best may before k f → Lowest (λ e. may e && not (someTo (λ f. may f && before f e) k)) k f
+      go (none h) = nowhere (λ j l. rw (h j l))
+      go (some {b} i) = here {e = b} (i .low) (rw (i .ok, unbeaten i)) (λ j l. beaten-above i j l (may j) refl)
 
 -- something is found exactly where something may stand
 abbrev pub isAt : Found → Bool

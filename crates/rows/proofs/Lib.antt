@@ -10,4 +10,5 @@ pub mod Filling
 pub mod Holding
 pub mod Listed
 pub mod Distinct
-pub mod Only
+pub mod Numbered
+pub mod Outcomes

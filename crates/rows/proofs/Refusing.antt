@@ -11,9 +11,10 @@ use Rattle.edition.specs.declared.Why.{Why}
 use Rattle.edition.specs.declared.Refusal.{Refusal}
 use Rattle.edition.specs.declared.Verdict.{Verdict}
 use Rattle.edition.specs.declared.Verdict.the-variants.{Taken, Refused}
+use Rattle.edition.specs.Refusals.{refused}
 use Rattle.rows.specs.First.{firstTo, refusedAt, refuseAt, refuseIf, firstly, verdictTo}
 use Rattle.rows.proofs.Tests.{lastly}
-use Rattle.rows.proofs.Best.{Lowest, nowhere, first-is, first-unique}
+use Rattle.rows.proofs.Best.{Lowest, nowhere, here, first-is, first-unique}
 
 refused-not : {A : Type 0} {r : Refusal} → Refused r ≡ Taken → A
 refused-not q = absurd (subst code q tt)
@@ -70,6 +71,12 @@ at-taken p k why h = go (firstTo p k) refl (first-is p k)
 pub at-passes : (p : ℕ → Bool) (k : ℕ) (why : Why) → ((j : ℕ) → j < k → p j ≡ false) → refuseAt p k why ≡ Taken
 unfolding refuseAt refusedAt
 at-passes p k why h = rw (first-unique p k (first-is p k) (nowhere h))
+
+-- the lowest place where the test holds is named
+pub at-refuses :
+    (p : ℕ → Bool) (k : ℕ) (why : Why) (e : ℕ) → e < k → p e ≡ true → ((j : ℕ) → j < e → p j ≡ false) → refuseAt p k why ≡ refused why e
+unfolding refuseAt refusedAt
+at-refuses p k why e l h n = ap (refusedAt why) (first-unique p k (first-is p k) (here {e = e} l h n))
 
 -- checks in number order
 pub to-taken : (f : ℕ → Verdict) (k : ℕ) → verdictTo f k ≡ Taken → (j : ℕ) → j < k → f j ≡ Taken

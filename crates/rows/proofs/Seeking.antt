@@ -1,24 +1,18 @@
 -- The loop that looks for the first number that passes: what it keeps, and what it ends with. Every such loop cites this.
 -- Assumes nothing.
 use mathlib.Core.Path.{_≡_, refl, subst, ap, _∙_}
-use mathlib.Core.Bool.{Bool, true, false, cond, _&&_}
+use mathlib.Core.Bool.{Bool}
 use Prim.Native.Nat.{ℕ, suc, _+_, _<_, _≤_}
 use native.Mathlib.Numerals.{add-one}
 use native.Mathlib.Omega.{arith}
 use Rattle.edition.specs.declared.Found.{Found}
 use Rattle.edition.specs.declared.Found.the-variants.{Nothing, At}
-use Rattle.rows.specs.First.{beats, bestTo, firstTo, orHere}
+use Rattle.rows.specs.First.{firstTo, orHere}
 
 -- one more number: it is found where nothing lower was
 first-more : (p : ℕ → Bool) (k : ℕ) → orHere (firstTo p k) (p k) k ≡ firstTo p (suc k)
-unfolding firstTo bestTo orHere beats
-first-more p k = go (bestTo p (λ a b. false) k) (p k)
-  where
-    go : (f : Found) (b : Bool) → orHere f b k ≡ cond (b && beats (λ a b. false) k f) (At k) f
-    go Nothing true = refl
-    go Nothing false = refl
-    go (At j) true = refl
-    go (At j) false = refl
+unfolding firstTo
+first-more p k = refl
 
 -- what is found among the numbers below i
 pub record Seeking (p : ℕ → Bool) (k i : ℕ) (found : Found) : Type 0 where
@@ -27,7 +21,7 @@ pub record Seeking (p : ℕ → Bool) (k i : ℕ) (found : Found) : Type 0 where
 
 module _ (p : ℕ → Bool) (k : ℕ) where
   pub seek-start : Seeking p k 0 Nothing
-  unfolding firstTo bestTo
+  unfolding firstTo
   seek-start = record { low = omega arith; is = refl }
 
   module _ (i : ℕ) (f : Found) (s : Seeking p k i f) where

@@ -1,5 +1,5 @@
--- The best and the first of the numbers below k, and the first refusal of a list. Assumes nothing.
-use mathlib.Core.Bool.{Bool, true, false, cond, _&&_}
+-- The first of the numbers below k that passes a test, and the first refusal of a list. Assumes nothing.
+use mathlib.Core.Bool.{Bool, cond}
 use mathlib.Core.List.{List, [], _∷_}
 use Prim.Native.Nat.{ℕ, zero, suc}
 use Rattle.edition.specs.declared.Found.{Found}
@@ -9,29 +9,20 @@ use Rattle.edition.specs.declared.Verdict.{Verdict}
 use Rattle.edition.specs.declared.Verdict.the-variants.{Taken, Refused}
 use Rattle.edition.specs.Refusals.{refused}
 
--- Does k take the place of the best so far: there is none yet, or k is to come before it?
-unfoldable pub beats : (ℕ → ℕ → Bool) → ℕ → Found → Bool
-beats before k Nothing = true
-beats before k (At b) = before k b
-
--- The best of the numbers below k that may stand, the lowest of those that nothing tells apart.
-unfoldable pub bestTo : (ℕ → Bool) → (ℕ → ℕ → Bool) → ℕ → Found
-bestTo may before zero = Nothing
-bestTo may before (suc k) = let best = bestTo may before k in cond (may k && beats before k best) (At k) best
+-- What is found, or else this place where the test passes.
+unfoldable pub orHere : Found → Bool → ℕ → Found
+orHere Nothing passes place = cond passes (At place) Nothing
+orHere (At lower) passes place = At lower
 
 -- The lowest number below k that passes the test.
 unfoldable pub firstTo : (ℕ → Bool) → ℕ → Found
-firstTo p k = bestTo p (λ a b. false) k
+firstTo p zero = Nothing
+firstTo p (suc k) = orHere (firstTo p k) (p k) k
 
 -- The number found, or another where nothing is.
 unfoldable pub foundOr : ℕ → Found → ℕ
 foundOr other Nothing = other
 foundOr other (At k) = k
-
--- What is found, or else this place where the test passes.
-unfoldable pub orHere : Found → Bool → ℕ → Found
-orHere Nothing passes place = cond passes (At place) Nothing
-orHere (At lower) passes place = At lower
 
 -- Refused for this reason at what is found.
 unfoldable pub refusedAt : Why → Found → Verdict

@@ -1,22 +1,21 @@
 -- What holds in a sound network: sizes, ends, parents, routes, shortness. Assumes nothing.
 use mathlib.Core.Path.{_≡_, refl}
 use mathlib.Core.Bool.{Bool, true, false, not}
-use mathlib.Core.List.{List}
 use Prim.Native.Nat.{ℕ, _<_, _≤_}
 use lib.Dec.{eqb, leb, ltb}
 use borrow.Author.Tests.{eqb-false, leb-false, ltb-false, not-false}
 use Rattle.edition.specs.Limits.{nodeLimit, linkLimit, depthLimit, wholeSearch, memoryLimits}
 use Rattle.rows.specs.Lists.{differ}
 use Rattle.rows.proofs.Tests.{clash, or3-false}
-use Rattle.network.specs.Network.{Net, inService, touches, otherEnd}
+use Rattle.network.specs.Network.{Net, inService, touches}
 use Rattle.network.specs.Records.{badRoot, badDepth, badEnds, unfit, badParent}
 use Rattle.network.proofs.Sizes.{nodes-within, links-within}
 use Rattle.tree.specs.Tree.{treeOf, under, onPath}
-use Rattle.tree.proofs.Ways.{Way, Home}
+use Rattle.tree.proofs.Ways.{Home}
 use Rattle.tree.proofs.Meeting.{on-path}
-use Rattle.tree.proofs.Bounded.{never-cut}
 use Rattle.sound.specs.Sound.{short, notShort}
 use Rattle.sound.proofs.Sounds.{Sound}
+use Rattle.sound.proofs.Closing.{parent-node}
 
 -- a bad depth is over the limit and not the whole search
 whole-or-few : (depth : ℕ) → badDepth memoryLimits depth ≡ false → (b : Bool) → eqb depth wholeSearch ≡ b → b ≡ false → depth ≤ depthLimit
@@ -81,16 +80,7 @@ module _ (g : Net) (s : Sound g) where
 
   -- the parent of a node is a node
   pub up-in : (u : ℕ) → u < treeOf g .size → treeOf g .up u < treeOf g .size
-  unfolding treeOf otherEnd
-  up-in u l = go (eqb u (g .search .root)) refl
-    where
-      other : (e : ℕ) → e < g .links → (b : Bool) → eqb (g .link e .first) u ≡ b → otherEnd (g .link e) u < g .nodes
-      other e k true q = rw q (second-in e k)
-      other e k false q = rw q (first-in e k)
-
-      go : (b : Bool) → eqb u (g .search .root) ≡ b → treeOf g .up u < g .nodes
-      go true q = rw q l
-      go false q = rw q (other (g .parent u) (parent-in u l q) (eqb (g .link (g .parent u) .first) u) refl)
+  up-in = parent-node g (s .recorded .ends-ok) (s .recorded .parents-ok)
 
   -- exactly one end of a link is in T(x) where the tree link of x lies on the tree path between the ends, and nowhere else
   pub link-path :
@@ -104,7 +94,3 @@ module _ (g : Net) (s : Sound g) where
   pub link-short : (e : ℕ) → e < g .links → inService (g .link e) ≡ true → short (treeOf g) (g .link e .first) (g .link e .second) (g .link e .length) ≡ true
   unfolding notShort
   link-short e l q = not-false _ (rw q at (s .recorded .short-ok e l))
-
-  -- no route of a sound network is cut: whoever has a way to the root at all has a route
-  pub no-cut : {u : ℕ} {r : List ℕ} → Way (treeOf g) u r → u < treeOf g .size → Home (treeOf g) u
-  no-cut w l = never-cut (treeOf g) up-in w l

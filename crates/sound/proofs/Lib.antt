@@ -1,4 +1,7 @@
 pub mod Sounds
+pub mod Closing
 pub mod Holding
 pub mod Shortness
 pub mod Handing
+pub mod Numbers
+pub mod Outcomes

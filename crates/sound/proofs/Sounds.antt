@@ -40,7 +40,7 @@ home-is : (g : Net) (u : ℕ) → noRoute g u ≡ false → Home (treeOf g) u
 unfolding noRoute
 home-is g u h = not-false (hasRoute (treeOf g) u) h
 
-home-not : (g : Net) (u : ℕ) → Home (treeOf g) u → noRoute g u ≡ false
+pub home-not : (g : Net) (u : ℕ) → Home (treeOf g) u → noRoute g u ≡ false
 unfolding noRoute
 home-not g u h = rw h
 
@@ -85,7 +85,7 @@ unfolding netVerdict
 sound g h =
     record { sized = sizes-say g (head-taken _ _ h); recorded = records-say g (head-taken _ _ (rest-taken _ _ h)) }
 
-sizes-taken : (g : Net) → Sized g → sizeVerdict memoryLimits (g .nodes) (g .links) (g .search) ≡ Taken
+pub sizes-taken : (g : Net) → Sized g → sizeVerdict memoryLimits (g .nodes) (g .links) (g .search) ≡ Taken
 unfolding sizeVerdict
 sizes-taken g s =
     both-taken _ _ (if-passes _ NodeCount 0 (s .nodes-ok))

@@ -106,7 +106,9 @@ fn check_short(links: &[u16], parents: &[u16], search: Search) -> Verdict
 // Refusals 5 to 9, of the records.
 fn check_records(links: &[u16], parents: &[u16], search: Search) -> Verdict
     requires { ⌜ badNodes memoryLimits (length (now parents)) ≡ false ⌝ }
-    ensures { λ r. ⌜ r ≡ recordVerdict (netOf (now (links .entry)) (now (parents .entry)) search) ⌝ }
+    ensures { λ r.
+        let g = netOf (now (links .entry)) (now (parents .entry)) search in
+        ⌜ r ≡ recordVerdict g ⌝ }
 {
     let ends = network::check_ends(links, parents.len());
     let Verdict::Taken = ends else {
@@ -129,7 +131,9 @@ fn check_records(links: &[u16], parents: &[u16], search: Search) -> Verdict
 
 // Refusals 1 to 9, in their order.
 fn verdict(links: &[u16], parents: &[u16], search: Search) -> Verdict
-    ensures { λ r. ⌜ r ≡ netVerdict (netOf (now (links .entry)) (now (parents .entry)) search) ⌝ }
+    ensures { λ r.
+        let g = netOf (now (links .entry)) (now (parents .entry)) search in
+        ⌜ r ≡ netVerdict g ⌝ }
 {
     let sizes = network::check_sizes(
         Memory::limits(),
@@ -145,7 +149,9 @@ fn verdict(links: &[u16], parents: &[u16], search: Search) -> Verdict
 
 // The check of a network and its tree: sound, with its sizes, or the first refusal of 1 to 9.
 pub fn check_network(links: &[u16], parents: &[u16], search: Search) -> Checked
-    ensures { λ r. ⌜ r ≡ checked (netOf (now (links .entry)) (now (parents .entry)) search) ⌝ }
+    ensures { λ r.
+        let g = netOf (now (links .entry)) (now (parents .entry)) search in
+        ⌜ r ≡ checked g ⌝ }
 {
     let said = verdict(links, parents, search);
     match said {

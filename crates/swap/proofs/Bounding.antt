@@ -20,11 +20,11 @@ use Rattle.tree.proofs.Bounded.{around-bound}
 use Rattle.tree.proofs.Made.{rise-flat, rise-held}
 use Rattle.sound.proofs.Sounds.{Sound}
 use Rattle.sound.proofs.Holding.{nodes-few, root-in, first-in, second-in, home, up-in}
-use Rattle.swap.specs.Swap.{lower, upper, crosses, newDist, inside, cost, costOf, bestSwap}
+use Rattle.swap.specs.Swap.{innerEnd, outerEnd, crosses, newDist, inside, cost, costOf, best}
 use Rattle.swap.specs.Entry.{priced, swapOf, entry}
 use Rattle.swap.proofs.Choosing.{chosen}
-use Rattle.swap.proofs.Stating.{candidate-crosses}
-use Rattle.swap.proofs.Costing.{inside-small, inside-out, crossing-splits, of-lower, of-upper}
+use Rattle.swap.proofs.Stating.{candidate-crosses, entry-root, entry-own}
+use Rattle.swap.proofs.Costing.{inside-small, inside-out, crossing-splits, of-inner, of-outer}
 
 -- the limits in figures
 pub way-limit : wayLimit ≡ 33488385
@@ -42,11 +42,11 @@ limitOf Max = wayLimit
 module _ (g : Net) (s : Sound g) (held : (e : ℕ) → g .link e .length ≤ longest) where
   module _ (x : ℕ) (far : eqb x (g .search .root) ≡ false) (e : ℕ) (le : e < g .links) (c : crosses (treeOf g) x e (g .link e) ≡ true) where
     -- an end of a link is a node
-    low-in : lower (treeOf g) x (g .link e) < g .nodes
-    low-in = of-lower (treeOf g) x (g .link e) (λ u. u < g .nodes) (first-in g s e le) (second-in g s e le)
+    low-in : innerEnd (treeOf g) x (g .link e) < g .nodes
+    low-in = of-inner (treeOf g) x (g .link e) (λ u. u < g .nodes) (first-in g s e le) (second-in g s e le)
 
-    up-there : upper (treeOf g) x (g .link e) < g .nodes
-    up-there = of-upper (treeOf g) x (g .link e) (λ u. u < g .nodes) (first-in g s e le) (second-in g s e le)
+    up-there : outerEnd (treeOf g) x (g .link e) < g .nodes
+    up-there = of-outer (treeOf g) x (g .link e) (λ u. u < g .nodes) (first-in g s e le) (second-in g s e le)
 
     -- N(u) is at most the lengths of 511 links
     new-bound : (u : ℕ) → u < g .nodes → under (treeOf g) x u ≡ true → newDist (treeOf g) x (g .link e) u ≤ wayLimit
@@ -55,7 +55,7 @@ module _ (g : Net) (s : Sound g) (held : (e : ℕ) → g .link e .length ≤ lon
         let z = crossing-splits (treeOf g) x (g .link e) e c in
         omega (
           arith,
-          around-bound (treeOf g) (up-in g s) x u (lower (treeOf g) x (g .link e)) (upper (treeOf g) x (g .link e))
+          around-bound (treeOf g) (up-in g s) x u (innerEnd (treeOf g) x (g .link e)) (outerEnd (treeOf g) x (g .link e))
               (home g s u l) (home g s _ low-in) (home g s _ up-there) l low-in up-there p (z .0) (z .1)
               longest (rise-held g held) (rise-flat g) (g .link e .length) (held e),
           nodes-few g s,
@@ -87,7 +87,7 @@ module _ (g : Net) (s : Sound g) (held : (e : ℕ) → g .link e .length ≤ lon
 
   -- so is every cost of an entry
   module _ (x : ℕ) (far : eqb x (g .search .root) ≡ false) (m : Measure) where
-    priced-bound : (f : Found) → bestSwap m g x ≡ f → priced m g x f .cost ≤ limitOf m
+    priced-bound : (f : Found) → best m g x ≡ f → priced m g x f .cost ≤ limitOf m
     unfolding priced costOf
     priced-bound Nothing q = omega arith
     priced-bound (At e) q =
@@ -96,12 +96,12 @@ module _ (g : Net) (s : Sound g) (held : (e : ℕ) → g .link e .length ≤ lon
 
     swap-bound : swapOf m g x .cost ≤ limitOf m
     unfolding swapOf
-    swap-bound = priced-bound (bestSwap m g x) refl
+    swap-bound = priced-bound (best m g x) refl
 
   pub entry-bound : (x : ℕ) → (entry g x .sum .cost ≤ sumLimit) × (entry g x .incr .cost ≤ wayLimit) × (entry g x .max .cost ≤ wayLimit)
-  unfolding entry limitOf
+  unfolding limitOf
   entry-bound x = go (eqb x (g .search .root)) refl
     where
       go : (b : Bool) → eqb x (g .search .root) ≡ b → (entry g x .sum .cost ≤ sumLimit) × (entry g x .incr .cost ≤ wayLimit) × (entry g x .max .cost ≤ wayLimit)
-      go true q = rw q (omega arith, omega arith, omega arith)
-      go false q = rw q (swap-bound x q Sum, swap-bound x q Incr, swap-bound x q Max)
+      go true q = rw (entry-root g x q) (omega arith, omega arith, omega arith)
+      go false q = rw (entry-own g x q) (swap-bound x q Sum, swap-bound x q Incr, swap-bound x q Max)

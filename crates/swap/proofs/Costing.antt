@@ -20,7 +20,7 @@ use Rattle.tree.proofs.Meeting.{apart-over, apart-far}
 use Rattle.sound.specs.Sound.{keepsShort, short}
 use Rattle.sound.proofs.Sounds.{Sound}
 use Rattle.sound.proofs.Holding.{home, first-in, second-in, link-short}
-use Rattle.swap.specs.Swap.{lower, upper, crosses, newDist, inside, cost}
+use Rattle.swap.specs.Swap.{innerEnd, outerEnd, crosses, newDist, inside, cost}
 
 -- f(u) for u in T(x)
 pub inside-in : (t : Tree) (x : ℕ) (f : ℕ → ℕ) (u : ℕ) → under t x u ≡ true → inside t x f u ≡ f u
@@ -37,14 +37,14 @@ inside-out t x f u h = rw h
 
 module _ (t : Tree) (x : ℕ) (l : Link) where
   -- the lower end of a link that crosses x is in T(x), the other is not
-  ends-split : differ (under t x (l .first)) (under t x (l .second)) ≡ true → (under t x (lower t x l) ≡ true) × (under t x (upper t x l) ≡ false)
-  unfolding lower upper
+  ends-split : differ (under t x (l .first)) (under t x (l .second)) ≡ true → (under t x (innerEnd t x l) ≡ true) × (under t x (outerEnd t x l) ≡ false)
+  unfolding innerEnd outerEnd
   ends-split h =
       differ-cases (under t x (l .first)) (under t x (l .second)) h
       (λ p q. (rw p p, rw p q))
       (λ p q. (rw p q, rw p p))
 
-  pub crossing-splits : (e : ℕ) → crosses t x e l ≡ true → (under t x (lower t x l) ≡ true) × (under t x (upper t x l) ≡ false)
+  pub crossing-splits : (e : ℕ) → crosses t x e l ≡ true → (under t x (innerEnd t x l) ≡ true) × (under t x (outerEnd t x l) ≡ false)
   unfolding crosses
   crossing-splits e h = ends-split (and-right (inService l && not (eqb e (t .link x))) _ h)
 
@@ -53,41 +53,41 @@ module _ (t : Tree) (x : ℕ) (l : Link) where
   crossing-serves e h = and-left (inService l) (not (eqb e (t .link x))) (and-left (inService l && not (eqb e (t .link x))) _ h)
 
   -- what holds of both ends holds of the lower and of the upper
-  pub of-lower : (P : ℕ → Type 0) → P (l .first) → P (l .second) → P (lower t x l)
-  unfolding lower
-  of-lower P p q = go (under t x (l .first)) refl
+  pub of-inner : (P : ℕ → Type 0) → P (l .first) → P (l .second) → P (innerEnd t x l)
+  unfolding innerEnd
+  of-inner P p q = go (under t x (l .first)) refl
     where
-      go : (b : Bool) → under t x (l .first) ≡ b → P (lower t x l)
+      go : (b : Bool) → under t x (l .first) ≡ b → P (innerEnd t x l)
       go true e = rw e p
       go false e = rw e q
 
-  pub of-upper : (P : ℕ → Type 0) → P (l .first) → P (l .second) → P (upper t x l)
-  unfolding upper
-  of-upper P p q = go (under t x (l .first)) refl
+  pub of-outer : (P : ℕ → Type 0) → P (l .first) → P (l .second) → P (outerEnd t x l)
+  unfolding outerEnd
+  of-outer P p q = go (under t x (l .first)) refl
     where
-      go : (b : Bool) → under t x (l .first) ≡ b → P (upper t x l)
+      go : (b : Bool) → under t x (l .first) ≡ b → P (outerEnd t x l)
       go true e = rw e q
       go false e = rw e p
 
   -- the two inequalities, read from the lower end
-  short-ends : short t (l .first) (l .second) (l .length) ≡ true → dist t (lower t x l) ≤ dist t (upper t x l) + l .length
-  unfolding short keepsShort lower upper
+  short-ends : short t (l .first) (l .second) (l .length) ≡ true → dist t (innerEnd t x l) ≤ dist t (outerEnd t x l) + l .length
+  unfolding short keepsShort innerEnd outerEnd
   short-ends h = go (under t x (l .first)) refl
     where
-      go : (b : Bool) → under t x (l .first) ≡ b → dist t (lower t x l) ≤ dist t (upper t x l) + l .length
+      go : (b : Bool) → under t x (l .first) ≡ b → dist t (innerEnd t x l) ≤ dist t (outerEnd t x l) + l .length
       go true e = rw e (leb-true _ _ (and-left _ _ h))
       go false e =
           rw e (leb-true _ _ (and-right (leb (dist t (l .first)) (dist t (l .second) + l .length)) _ h))
 
   -- no node comes nearer
-  no-nearer : (u : ℕ) → Home t u → Home t (lower t x l) → short t (l .first) (l .second) (l .length) ≡ true → dist t u ≤ newDist t x l u
+  no-nearer : (u : ℕ) → Home t u → Home t (innerEnd t x l) → short t (l .first) (l .second) (l .length) ≡ true → dist t u ≤ newDist t x l u
   unfolding newDist
-  no-nearer u h g k = omega (arith, apart-far t u (lower t x l) h g, short-ends k)
+  no-nearer u h g k = omega (arith, apart-far t u (innerEnd t x l) h g, short-ends k)
 
-  module _ (everywhere : (u : ℕ) → u < t .size → Home t u) (lx : x < t .size) (hz : Home t (lower t x l)) (low : under t x (lower t x l) ≡ true) where
+  module _ (everywhere : (u : ℕ) → u < t .size → Home t u) (lx : x < t .size) (hz : Home t (innerEnd t x l)) (low : under t x (innerEnd t x l) ≡ true) where
     gain : (u : ℕ) → Home t u → under t x u ≡ true → newDist t x l u + dist t x ≤ newDist t x l x + dist t u
     unfolding newDist
-    gain u h p = omega (arith, apart-over t u (lower t x l) x h hz p low)
+    gain u h p = omega (arith, apart-over t u (innerEnd t x l) x h hz p low)
 
     -- incr by its definition is N(x) - d(x)
     incr-own : cost Incr t x l ≡ newDist t x l x - dist t x
@@ -100,8 +100,8 @@ module _ (t : Tree) (x : ℕ) (l : Link) where
 
 -- in a sound network
 module _ (g : Net) (s : Sound g) (x e : ℕ) (le : e < g .links) (c : crosses (treeOf g) x e (g .link e) ≡ true) where
-  lower-home : Home (treeOf g) (lower (treeOf g) x (g .link e))
-  lower-home = of-lower (treeOf g) x (g .link e) (Home (treeOf g)) (home g s _ (first-in g s e le)) (home g s _ (second-in g s e le))
+  lower-home : Home (treeOf g) (innerEnd (treeOf g) x (g .link e))
+  lower-home = of-inner (treeOf g) x (g .link e) (Home (treeOf g)) (home g s _ (first-in g s e le)) (home g s _ (second-in g s e le))
 
   -- N(u) - d(u) is never cut off at 0
   pub never-nearer : (u : ℕ) → u < g .nodes → dist (treeOf g) u ≤ newDist (treeOf g) x (g .link e) u

@@ -16,8 +16,8 @@ use Rattle.tree.specs.Tree.{Tree, route, dist, under, meet}
 use Rattle.tree.proofs.Ways.{Home, home-up, home-step, under-self, under-trans, under-cut, before-under, route-step}
 use Rattle.tree.proofs.Meeting.{meet-under, meet-one, meet-two, apart-dist, under-both, home-meet}
 use Rattle.tree.proofs.Climbing.{up-above, along-all}
-use Rattle.swap.specs.Swap.{lower, upper, newDist, inside, cost}
-use Rattle.swap.specs.Fold.{count, weight, stemAt, stem, base, turn, through}
+use Rattle.swap.specs.Swap.{innerEnd, outerEnd, newDist, inside, cost}
+use Rattle.swap.specs.Work.{count, weight, stemAt, stem, base, turn, through}
 use Rattle.swap.proofs.Costing.{inside-in, inside-out}
 
 module _ (t : Tree) where
@@ -144,35 +144,35 @@ module _ (t : Tree) where
         (ap (λ (k : ℕ). k + stem t z) (met-start z))
 
     -- N(u) + 2 d(meet) = d(u) + K, added over T(x)
-    module _ (x : ℕ) (l : Link) (hz : Home t (lower t x l)) (pz : under t x (lower t x l) ≡ true) where
+    module _ (x : ℕ) (l : Link) (hz : Home t (innerEnd t x l)) (pz : under t x (innerEnd t x l) ≡ true) where
       -- K read from the lower end
-      pub through-ends : through t l ≡ dist t (lower t x l) + l .length + dist t (upper t x l)
-      unfolding through lower upper
+      pub through-ends : through t l ≡ dist t (innerEnd t x l) + l .length + dist t (outerEnd t x l)
+      unfolding through innerEnd outerEnd
       through-ends = go (under t x (l .first)) refl
         where
-          go : (b : Bool) → under t x (l .first) ≡ b → through t l ≡ dist t (lower t x l) + l .length + dist t (upper t x l)
+          go : (b : Bool) → under t x (l .first) ≡ b → through t l ≡ dist t (innerEnd t x l) + l .length + dist t (outerEnd t x l)
           go true e = rw e
           go false e = rw e (omega arith)
 
       twice-met : ℕ → ℕ
-      twice-met u = dist t (meet t u (lower t x l)) + dist t (meet t u (lower t x l))
+      twice-met u = dist t (meet t u (innerEnd t x l)) + dist t (meet t u (innerEnd t x l))
 
       one-met : (u : ℕ) → Home t u → newDist t x l u + twice-met u ≡ dist t u + through t l
       unfolding newDist twice-met
-      one-met u h = omega (arith, apart-dist t u (lower t x l) h hz, through-ends)
+      one-met u h = omega (arith, apart-dist t u (innerEnd t x l) h hz, through-ends)
 
-      met-twice : sumTo (inside t x twice-met) (t .size) ≡ met x (lower t x l) + met x (lower t x l)
+      met-twice : sumTo (inside t x twice-met) (t .size) ≡ met x (innerEnd t x l) + met x (innerEnd t x l)
       unfolding met twice-met
       met-twice =
           sum-cong (inside t x twice-met)
-          (λ u. inside t x (λ u. dist t (meet t u (lower t x l))) u + inside t x
-          (λ u. dist t (meet t u (lower t x l))) u)
+          (λ u. inside t x (λ u. dist t (meet t u (innerEnd t x l))) u + inside t x
+          (λ u. dist t (meet t u (innerEnd t x l))) u)
           (t .size) (λ u k. each u (under t x u) refl)
-          ∙ sum-add (inside t x (λ u. dist t (meet t u (lower t x l))))
-          (inside t x (λ u. dist t (meet t u (lower t x l)))) (t .size)
+          ∙ sum-add (inside t x (λ u. dist t (meet t u (innerEnd t x l))))
+          (inside t x (λ u. dist t (meet t u (innerEnd t x l)))) (t .size)
         where
           f : ℕ → ℕ
-          f = λ u. dist t (meet t u (lower t x l))
+          f = λ u. dist t (meet t u (innerEnd t x l))
 
           each : (u : ℕ) (b : Bool) → under t x u ≡ b → inside t x twice-met u ≡ inside t x f u + inside t x f u
           each u true e = rw (inside-in t x twice-met u e, inside-in t x f u e)
@@ -197,6 +197,6 @@ module _ (t : Tree) where
               rw (inside-out t x (newDist t x l) u e, inside-out t x twice-met u e, inside-out t x (dist t) u e, inside-out t x (λ u. through t l) u e)
 
       -- the sum by what is kept
-      pub sum-is : cost Sum t x l + turn t (lower t x l) ≡ base t x + count t x * through t l
+      pub sum-is : cost Sum t x l + turn t (innerEnd t x l) ≡ base t x + count t x * through t l
       unfolding turn base
-      sum-is = omega (arith, sum-met, met-twice, met-all (lower t x l) hz x pz)
+      sum-is = omega (arith, sum-met, met-twice, met-all (innerEnd t x l) hz x pz)

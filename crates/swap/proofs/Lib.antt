@@ -5,5 +5,4 @@ pub mod Bounding
 pub mod Folding
 pub mod Reaching
 pub mod Depths
-pub mod Prefixes
 pub mod Parallels

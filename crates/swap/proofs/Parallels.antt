@@ -13,7 +13,12 @@ use Rattle.network.specs.Network.{inService}
 use Rattle.tree.specs.Tree.{Tree, hops}
 use Rattle.tree.proofs.Ways.{Home, under-self, hops-cut}
 use Rattle.tree.proofs.Climbing.{below-not}
-use Rattle.swap.specs.Swap.{lower, crosses, within}
+use Rattle.swap.specs.Swap.{innerEnd, crosses, within}
+
+-- the link joins a and b
+pub data Joins (l : Link) (a b : ℕ) : Type 0 where
+  so : l .first ≡ a → l .second ≡ b → Joins l a b
+  turned : l .first ≡ b → l .second ≡ a → Joins l a b
 
 module _ (t : Tree) (x : ℕ) (home : Home t x) where
   -- x itself is 0 hops below x
@@ -23,11 +28,21 @@ module _ (t : Tree) (x : ℕ) (home : Home t x) where
       or-right (eqb depth wholeSearch) (leb (hops t x x) depth) (le-leb (hops t x x) depth (omega (arith, hops-cut t x x home (under-self t x home))))
 
   module _ (far : eqb x (t .root) ≡ false) (e : ℕ) (l : Link) (up : inService l ≡ true)
-      (other : eqb e (t .link x) ≡ false) (one : l .first ≡ x) (two : l .second ≡ t .up x) where
+      (other : eqb e (t .link x) ≡ false) (ends : Joins l x (t .up x)) where
+    -- a link in service beside the tree link of x crosses x, whichever of its ends stands first
     pub parallel-crosses : crosses t x e l ≡ true
     unfolding crosses
-    parallel-crosses = rw (up, other, one, two, under-self t x home, below-not t x home far)
+    parallel-crosses = go ends
+      where
+        go : Joins l x (t .up x) → crosses t x e l ≡ true
+        go (so one two) = rw (up, other, one, two, under-self t x home, below-not t x home far)
+        go (turned one two) = rw (up, other, one, two, under-self t x home, below-not t x home far)
 
-    pub parallel-lower : lower t x l ≡ x
-    unfolding lower
-    parallel-lower = rw (one, under-self t x home)
+    -- its end in T(x) is x itself
+    pub parallel-inner : innerEnd t x l ≡ x
+    unfolding innerEnd
+    parallel-inner = go ends
+      where
+        go : Joins l x (t .up x) → innerEnd t x l ≡ x
+        go (so one two) = rw (one, under-self t x home)
+        go (turned one two) = rw (one, two, below-not t x home far)

@@ -16,8 +16,8 @@ use Rattle.tree.specs.Tree.{Tree, dist, under, apart}
 use Rattle.tree.proofs.Ways.{Home, home-up, home-step, under-self, under-trans, dist-up}
 use Rattle.tree.proofs.Meeting.{apart-dist}
 use Rattle.tree.proofs.Climbing.{up-above, below-not}
-use Rattle.swap.specs.Swap.{lower, upper, newDist, inside, cost}
-use Rattle.swap.specs.Fold.{deepest, beside, aside, reach}
+use Rattle.swap.specs.Swap.{innerEnd, outerEnd, newDist, inside, cost}
+use Rattle.swap.specs.Work.{deepest, beside, aside, reach}
 use Rattle.swap.proofs.Costing.{inside-in, inside-small}
 use Rattle.swap.proofs.Folding.{meet-below, meet-aside}
 
@@ -140,22 +140,22 @@ module _ (t : Tree) (all : (u : ℕ) → u < t .size → Home t u) where
         lower-half = omega (arith, one, two, near, aside-more)
 
   -- max and incr of a link that crosses x
-  module _ (x : ℕ) (l : Link) (lx : x < t .size) (hz : Home t (lower t x l)) (pz : under t x (lower t x l) ≡ true) where
-    pub max-is : cost Max t x l ≡ reach t x (lower t x l) + (l .length + dist t (upper t x l))
+  module _ (x : ℕ) (l : Link) (lx : x < t .size) (hz : Home t (innerEnd t x l)) (pz : under t x (innerEnd t x l) ≡ true) where
+    pub max-is : cost Max t x l ≡ reach t x (innerEnd t x l) + (l .length + dist t (outerEnd t x l))
     unfolding cost reach newDist
     max-is =
         le-antisymm
         (inside-bound t x (newDist t x l) _ (λ u k e. omega (arith, one u, inside-reach t x f u k e)))
         (omega (
           arith,
-          inside-bound t x f (maxTo (inside t x (newDist t x l)) (t .size) - (l .length + dist t (upper t x l)))
+          inside-bound t x f (maxTo (inside t x (newDist t x l)) (t .size) - (l .length + dist t (outerEnd t x l)))
               (λ u k e. omega (arith, one u, inside-reach t x (newDist t x l) u k e)),
           one x,
           inside-reach t x (newDist t x l) x lx (under-self t x (all x lx)),
         ))
       where
         f : ℕ → ℕ
-        f = λ u. apart t u (lower t x l)
+        f = λ u. apart t u (innerEnd t x l)
 
-        one : (u : ℕ) → newDist t x l u ≡ apart t u (lower t x l) + (l .length + dist t (upper t x l))
+        one : (u : ℕ) → newDist t x l u ≡ apart t u (innerEnd t x l) + (l .length + dist t (outerEnd t x l))
         one u = omega arith

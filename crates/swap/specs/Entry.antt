@@ -12,25 +12,22 @@ use Rattle.edition.specs.Entries.{rootState, swapState, noneState, bridgeState,
 use Rattle.rows.specs.Count.{someTo}
 use Rattle.network.specs.Network.{Net}
 use Rattle.tree.specs.Tree.{treeOf}
-use Rattle.swap.specs.Swap.{crosses, candidate, costOf, bestSwap}
+use Rattle.swap.specs.Swap.{crosses, candidate, costOf, best}
 
 -- Does some link cross x?
 unfoldable pub crossed : Net → ℕ → Bool
 crossed g x = someTo (λ e. crosses (treeOf g) x e (g .link e)) (g .links)
 
 -- Is some link a candidate of x?
-unfoldable pub saved : Net → ℕ → Bool
-saved g x = someTo (candidate g x) (g .links)
+unfoldable pub hasCandidate : Net → ℕ → Bool
+hasCandidate g x = someTo (candidate g x) (g .links)
 
--- 1 swap; 2 links cross but none within the depth; 3 bridge, nothing crosses.
-unfoldable pub stateBelow : Net → ℕ → ℕ
-stateBelow g x =
-    let far = cond (crossed g x) noneState bridgeState in
-    cond (saved g x) swapState far
-
--- The state of every node: 0 for the root.
+-- The state: 0 root; 1 swap; 2 links cross but none within the depth; 3 bridge, nothing crosses.
 unfoldable pub state : Net → ℕ → ℕ
-state g x = let other = stateBelow g x in cond (eqb x (g .search .root)) rootState other
+state g x =
+    let far = cond (crossed g x) noneState bridgeState in
+    let other = cond (hasCandidate g x) swapState far in
+    cond (eqb x (g .search .root)) rootState other
 
 -- The link found with its cost; no link and 0 where nothing is found.
 unfoldable pub priced : Measure → Net → ℕ → Found → Swap
@@ -39,11 +36,11 @@ priced s g x (At e) = record { link = e; cost = costOf s g x e }
 
 -- The best candidate under a measure, with its cost.
 unfoldable pub swapOf : Measure → Net → ℕ → Swap
-swapOf s g x = priced s g x (bestSwap s g x)
+swapOf s g x = priced s g x (best s g x)
 
--- The entry of x: blank for the root; for another node its state and its best candidates.
+-- The entry of x: its state, and in state 1 the best candidates and their costs. Only state 1 has links and costs.
 unfoldable pub entry : Net → ℕ → Entry
 entry g x =
     let own : Entry =
-    record { state = stateBelow g x; sum = swapOf Sum g x; incr = swapOf Incr g x; max = swapOf Max g x } in
-    cond (eqb x (g .search .root)) (blank rootState) own
+    record { state = swapState; sum = swapOf Sum g x; incr = swapOf Incr g x; max = swapOf Max g x } in
+    cond (eqb (state g x) swapState) own (blank (state g x))

@@ -1,4 +1,3 @@
 pub mod Swap
 pub mod Entry
-pub mod Fold
-pub mod Prefix
+pub mod Work

@@ -6,21 +6,20 @@ use Rattle.edition.specs.declared.Found.{Found}
 use Rattle.edition.specs.declared.Measure.{Measure}
 use Rattle.edition.specs.declared.Measure.the-variants.{Sum, Incr, Max}
 use Rattle.edition.specs.Limits.{wholeSearch}
-use Rattle.rows.specs.Count.{sumTo, maxTo, onlyIf}
-use Rattle.rows.specs.First.{bestTo}
+use Rattle.rows.specs.Count.{sumTo, maxTo, someTo, onlyIf}
+use Rattle.rows.specs.First.{firstTo}
 use Rattle.rows.specs.Lists.{differ}
 use Rattle.network.specs.declared.Link.{Link}
 use Rattle.network.specs.Network.{Net, inService}
-use Rattle.swap.specs.declared.Offer.{Offer}
 use Rattle.tree.specs.Tree.{Tree, treeOf, dist, under, hops, apart}
 
 -- z, the end of a link that is in T(x).
-unfoldable pub lower : Tree → ℕ → Link → ℕ
-lower t x l = cond (under t x (l .first)) (l .first) (l .second)
+unfoldable pub innerEnd : Tree → ℕ → Link → ℕ
+innerEnd t x l = cond (under t x (l .first)) (l .first) (l .second)
 
 -- z', the other end.
-unfoldable pub upper : Tree → ℕ → Link → ℕ
-upper t x l = cond (under t x (l .first)) (l .second) (l .first)
+unfoldable pub outerEnd : Tree → ℕ → Link → ℕ
+outerEnd t x l = cond (under t x (l .first)) (l .second) (l .first)
 
 -- Link e crosses x: it is in service, is not the tree link of x, and has exactly one end in T(x).
 unfoldable pub crosses : Tree → ℕ → ℕ → Link → Bool
@@ -34,12 +33,12 @@ within t depth x z = eqb depth wholeSearch || leb (hops t x z) depth
 unfoldable pub candidate : Net → ℕ → ℕ → Bool
 candidate g x e =
     let t = treeOf g in
-    let near = within t (g .search .depth) x (lower t x (g .link e)) in
+    let near = within t (g .search .depth) x (innerEnd t x (g .link e)) in
     crosses t x e (g .link e) && near
 
 -- N(u) = t(u,z) + w + d(z').
 unfoldable pub newDist : Tree → ℕ → Link → ℕ → ℕ
-newDist t x l u = apart t u (lower t x l) + l .length + dist t (upper t x l)
+newDist t x l u = apart t u (innerEnd t x l) + l .length + dist t (outerEnd t x l)
 
 -- f(u) for u in T(x), and 0 for every other node.
 unfoldable pub inside : Tree → ℕ → (ℕ → ℕ) → ℕ → ℕ
@@ -55,18 +54,13 @@ cost Max t x l = maxTo (inside t x (newDist t x l)) (t .size)
 unfoldable pub costOf : Measure → Net → ℕ → ℕ → ℕ
 costOf s g x e = cost s (treeOf g) x (g .link e)
 
--- A candidate under a measure: its link number, its cost, and its incr cost.
-unfoldable pub offer : Measure → Net → ℕ → ℕ → Offer
-offer s g x e = record { link = e; cost = costOf s g x e; incr = costOf Incr g x e }
-
--- One candidate is better than another where it costs less, or as much and has the lower number.
-unfoldable pub better : Offer → Offer → Bool
-better a b = ltb (a .cost) (b .cost) || (eqb (a .cost) (b .cost) && ltb (a .link) (b .link))
-
--- Link e comes before link f.
+-- Link e comes before link f: it costs x less, or as much and has the lower number.
 unfoldable pub before : Measure → Net → ℕ → ℕ → ℕ → Bool
-before s g x e f = better (offer s g x e) (offer s g x f)
+before s g x e f =
+    let a = costOf s g x e in
+    let b = costOf s g x f in
+    ltb a b || (eqb a b && ltb e f)
 
--- The candidate of least cost, the lowest link number among equals.
-unfoldable pub bestSwap : Measure → Net → ℕ → Found
-bestSwap s g x = bestTo (candidate g x) (before s g x) (g .links)
+-- The best: the candidate of least cost, the lowest link number among equals. No candidate comes before it.
+unfoldable pub best : Measure → Net → ℕ → Found
+best s g x = firstTo (λ e. candidate g x e && not (someTo (λ f. candidate g x f && before s g x f e) (g .links))) (g .links)

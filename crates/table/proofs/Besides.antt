@@ -12,7 +12,7 @@ use Rattle.rows.proofs.Tests.{clash, either, and-left, and-right, not-so}
 use Rattle.tree.specs.Tree.{Tree, route, dist, under}
 use Rattle.tree.proofs.Ways.{Way, top, hop, Home, way, under-self, under-trans, under-cut, before-under, route-step}
 use Rattle.tree.proofs.Climbing.{up-above, below-not}
-use Rattle.swap.specs.Fold.{deepest, aside}
+use Rattle.swap.specs.Work.{deepest, aside}
 use Rattle.swap.proofs.Reaching.{inside-reach, inside-bound, beside-reach, beside-bound, aside-more}
 use Rattle.table.specs.Work.{child}
 

@@ -23,7 +23,7 @@ use Rattle.sound.specs.Sound.{netVerdict}
 use Rattle.sound.proofs.Sounds.{Sound, sound}
 use Rattle.sound.proofs.Holding.{home, up-in}
 use Rattle.sound.proofs.Shortness.{filled-row}
-use Rattle.swap.specs.Fold.{deepest, aside}
+use Rattle.swap.specs.Work.{deepest, aside}
 use Rattle.table.specs.Work.{Holds, child, placed, kid, Passed, Asides}
 use Rattle.table.proofs.Besides.{parent-beside, sibling-beside, beside-least}
 use Rattle.table.proofs.Passing.{up-low}

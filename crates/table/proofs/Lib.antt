@@ -1,3 +1,4 @@
+pub mod Prefixes
 pub mod Moving
 pub mod Counts
 pub mod Stems
@@ -15,3 +16,5 @@ pub mod Searching
 pub mod Preparing
 pub mod Whole
 pub mod Single
+pub mod Numbers
+pub mod Outcomes

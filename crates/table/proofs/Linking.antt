@@ -23,23 +23,23 @@ use Rattle.tree.proofs.InRows.{size-in}
 use Rattle.sound.specs.Sound.{netVerdict}
 use Rattle.sound.proofs.Sounds.{Sound, sound}
 use Rattle.sound.proofs.Holding.{first-in, second-in, parent-touches, home, up-in}
-use Rattle.swap.specs.Swap.{lower, crosses}
-use Rattle.swap.specs.Fold.{count}
-use Rattle.swap.proofs.Prefixes.{entry-unmoved, entry-top}
+use Rattle.swap.specs.Swap.{innerEnd, crosses}
+use Rattle.swap.specs.Work.{count}
+use Rattle.table.proofs.Prefixes.{entry-unmoved, entry-top}
 use Rattle.table.specs.declared.Side.{Side}
-use Rattle.table.specs.Table.{marked}
+use Rattle.table.specs.Table.{isAsked}
 use Rattle.table.specs.Work.{Entries, Carries, Crossing, want, OfferedAt, Ready, Spare, Starting, Linked}
 use Rattle.table.proofs.Moving.{passed-none, passed-more}
 use Rattle.table.proofs.Offering.{entries-same}
 use Rattle.table.proofs.TwoSides.{count-more, together}
 
 -- a link that does not cross x leaves its record
-module _ (g : Net) (marks before : List ℕ) (e x : ℕ) where
-  pub want-kept : crosses (treeOf g) x e (g .link e) ≡ false → want g marks before (suc e) x ≡ want g marks before e x
+module _ (g : Net) (asked before : List ℕ) (e x : ℕ) where
+  pub want-kept : crosses (treeOf g) x e (g .link e) ≡ false → want g asked before (suc e) x ≡ want g asked before e x
   unfolding want
-  want-kept c = go (marked marks x) refl (eqb x (g .search .root)) refl
+  want-kept c = go (isAsked asked x) refl (eqb x (g .search .root)) refl
     where
-      go : (m : Bool) → marked marks x ≡ m → (r : Bool) → eqb x (g .search .root) ≡ r → want g marks before (suc e) x ≡ want g marks before e x
+      go : (m : Bool) → isAsked asked x ≡ m → (r : Bool) → eqb x (g .search .root) ≡ r → want g asked before (suc e) x ≡ want g asked before e x
       go false p r q = rw p
       go true p true q = rw (p, entry-top g x q (suc e), entry-top g x q e)
       go true p false q = rw (p, entry-unmoved g x q e c)
@@ -96,8 +96,8 @@ module _ (t : Tree) where
   end-differs forth x = refl
   end-differs {l} back x = differ-turn (under t x (l .first)) (under t x (l .second))
 
-  end-lower : {l : Link} {y z : ℕ} → Ends l y z → (x : ℕ) → under t x y ≡ true → under t x z ≡ false → lower t x l ≡ y
-  unfolding lower
+  end-lower : {l : Link} {y z : ℕ} → Ends l y z → (x : ℕ) → under t x y ≡ true → under t x z ≡ false → innerEnd t x l ≡ y
+  unfolding innerEnd
   end-lower forth x p q = rw p
   end-lower back x p q = rw q
 
@@ -111,7 +111,7 @@ record Apart (t : Tree) (a b : Side) : Type 0 where
   free : (v : ℕ) → behind t a v ≡ true → under t v (b .from) ≡ false
 
 -- two climbs from the ends of a spare link, up to where they meet: the nodes passed have gone on from e links to one more
-pub record Between (g : Net) (n : ℕ) (marks : List ℕ) (e k : ℕ) (row₀ : List ℕ) (a b : Side) (row : List ℕ) : Type 0 where
+pub record Between (g : Net) (n : ℕ) (asked : List ℕ) (e k : ℕ) (row₀ : List ℕ) (a b : Side) (row : List ℕ) : Type 0 where
   fine : Sound g
   nodes : treeOf g .size ≡ n
   spare : Spare g e k
@@ -121,10 +121,10 @@ pub record Between (g : Net) (n : ℕ) (marks : List ℕ) (e k : ℕ) (row₀ : 
   pub size : length row ≡ length row₀
   rows :
       (before : List ℕ)
-      → Entries n (want g marks before e) before row₀
+      → Entries n (want g asked before e) before row₀
       → Entries n
-      (λ v. cond (behind (treeOf g) a v || behind (treeOf g) b v) (want g marks before (suc e) v)
-      (want g marks before e v))
+      (λ v. cond (behind (treeOf g) a v || behind (treeOf g) b v) (want g asked before (suc e) v)
+      (want g asked before e v))
       before row
 
 -- how many nodes the two have on their routes, the root with each
@@ -132,8 +132,8 @@ abbrev pub left : Tree → Side → Side → ℕ
 left t a b = length (route t (a .climb .node)) + length (route t (b .climb .node))
 
 -- two climbs that have not met, the first with no more nodes below it than the second
-pub record Turn (g : Net) (n : ℕ) (marks : List ℕ) (e k : ℕ) (row₀ : List ℕ) (a b : Side) (row : List ℕ) (m : ℕ) : Type 0 where
-  between : Between g n marks e k row₀ a b row
+pub record Turn (g : Net) (n : ℕ) (asked : List ℕ) (e k : ℕ) (row₀ : List ℕ) (a b : Side) (row : List ℕ) (m : ℕ) : Type 0 where
+  between : Between g n asked e k row₀ a b row
   few : count (treeOf g) (a .climb .node) ≤ count (treeOf g) (b .climb .node)
   parted : a .climb .node ≡ b .climb .node → ⊥
   left-is : left (treeOf g) a b ≡ m
@@ -152,8 +152,8 @@ module _ (links parents : List ℕ) (search : Search) (ok : netVerdict (netOf li
   fine : Sound g
   fine = sound g ok
 
-  pub between-start : (e k : ℕ) → Spare g e k → (a b : Side) → Starting g e a b → (marks row : List ℕ) → Between g (length parents) marks e k row a b row
-  between-start e k s a b z marks row =
+  pub between-start : (e k : ℕ) → Spare g e k → (a b : Side) → Starting g e a b → (asked row : List ℕ) → Between g (length parents) asked e k row a b row
+  between-start e k s a b z asked row =
       record {
         fine = fine;
         nodes = size-in links parents search;
@@ -171,10 +171,10 @@ module _ (links parents : List ℕ) (search : Search) (ok : netVerdict (netOf li
       b-none : (v : ℕ) → behind (treeOf g) b v ≡ false
       b-none = none-behind _ _ b (z .two) (home g fine _ (second-in g fine e (s .there))) (z .two-at)
 
-module _ {g : Net} {n : ℕ} {marks : List ℕ} {e k : ℕ} {row₀ : List ℕ} where
-  module _ {a b : Side} {row : List ℕ} (i : Between g n marks e k row₀ a b row) where
+module _ {g : Net} {n : ℕ} {asked : List ℕ} {e k : ℕ} {row₀ : List ℕ} where
+  module _ {a b : Side} {row : List ℕ} (i : Between g n asked e k row₀ a b row) where
     -- what is said of the first climb holds of the second too
-    pub between-turn : Between g n marks e k row₀ b a row
+    pub between-turn : Between g n asked e k row₀ b a row
     between-turn =
         record {
           fine = i .fine;
@@ -206,7 +206,7 @@ module _ {g : Net} {n : ℕ} {marks : List ℕ} {e k : ℕ} {row₀ : List ℕ} 
     node-low : a .climb .node < n
     node-low = omega (arith, node-in, i .nodes)
 
-  module _ {a b : Side} {row : List ℕ} (i : Between g n marks e k row₀ a b row) where
+  module _ {a b : Side} {row : List ℕ} (i : Between g n asked e k row₀ a b row) where
     -- where they meet, every node that the link crosses was passed
     module _ {p q : ℕ} (pe : p ≡ a .climb .node) (qe : q ≡ b .climb .node) (met : p ≡ q) where
       meeting : a .climb .node ≡ meet (treeOf g) (a .from) (b .from)
@@ -227,11 +227,11 @@ module _ {g : Net} {n : ℕ} {marks : List ℕ} {e k : ℕ} {row₀ : List ℕ} 
       all-done :
           (before : List ℕ) (v : ℕ) (t : Bool)
           → (behind (treeOf g) a v || behind (treeOf g) b v) ≡ t
-          → cond t (want g marks before (suc e) v) (want g marks before e v) ≡ want g marks before (suc e) v
+          → cond t (want g asked before (suc e) v) (want g asked before e v) ≡ want g asked before (suc e) v
       all-done before v true c = refl
-      all-done before v false c = sym (want-kept g marks before e v (not-crossed v c))
+      all-done before v false c = sym (want-kept g asked before e v (not-crossed v c))
 
-      pub between-end : Linked g n marks e row₀ row
+      pub between-end : Linked g n asked e row₀ row
       between-end = record { goes-on = λ before h. entries-same _ _ _ before row (λ v l. all-done before v _ refl) (i .rows before h) }
 
     module _ {near counts bases turns : List ℕ} (r : Ready (treeOf g) n near counts bases turns) where
@@ -241,7 +241,7 @@ module _ {g : Net} {n : ℕ} {marks : List ℕ} {e k : ℕ} {row₀ : List ℕ} 
       -- the one with fewer nodes below it is next
       module _ {x y : ℕ} (xe : x ≡ getD counts (b .climb .node) 0) (ye : y ≡ getD counts (a .climb .node) 0) {p q : ℕ}
           (pe : p ≡ a .climb .node) (qe : q ≡ b .climb .node) (f : p ≡ q → ⊥) where
-        pub first-next : y ≤ x → Turn g n marks e k row₀ a b row (left (treeOf g) a b)
+        pub first-next : y ≤ x → Turn g n asked e k row₀ a b row (left (treeOf g) a b)
         first-next l =
             record {
               between = i;
@@ -250,7 +250,7 @@ module _ {g : Net} {n : ℕ} {marks : List ℕ} {e k : ℕ} {row₀ : List ℕ} 
               left-is = refl;
             }
 
-        pub second-next : x < y → Turn g n marks e k row₀ b a row (left (treeOf g) a b)
+        pub second-next : x < y → Turn g n asked e k row₀ b a row (left (treeOf g) a b)
         second-next l =
             record {
               between = between-turn i;
@@ -260,8 +260,8 @@ module _ {g : Net} {n : ℕ} {marks : List ℕ} {e k : ℕ} {row₀ : List ℕ} 
             }
 
   -- the link crosses the node where the first is, and the first goes on
-  module _ {a b : Side} {row : List ℕ} {m : ℕ} (turn : Turn g n marks e k row₀ a b row m) where
-    i : Between g n marks e k row₀ a b row
+  module _ {a b : Side} {row : List ℕ} {m : ℕ} (turn : Turn g n asked e k row₀ a b row m) where
+    i : Between g n asked e k row₀ a b row
     i = turn .between
 
     not-over : under (treeOf g) (a .climb .node) (b .climb .node) ≡ false
@@ -307,7 +307,7 @@ module _ {g : Net} {n : ℕ} {marks : List ℕ} {e k : ℕ} {row₀ : List ℕ} 
           either _ _ m (λ x. i .one .free v x)
           (λ x y. subst (λ (w : ℕ). under (treeOf g) w (b .from) ≡ false) (eqb-true (a .climb .node) v y) off)
 
-      pub between-more : {row′ : List ℕ} → OfferedAt g n marks e (a .climb .node) row row′ → length row′ ≡ length row → Between g n marks e k row₀ a′ b row′
+      pub between-more : {row′ : List ℕ} → OfferedAt g n asked e (a .climb .node) row row′ → length row′ ≡ length row → Between g n asked e k row₀ a′ b row′
       between-more {row′} o w =
           record {
             fine = i .fine;
@@ -325,8 +325,8 @@ module _ {g : Net} {n : ℕ} {marks : List ℕ} {e k : ℕ} {row₀ : List ℕ} 
           }
 
 pub not-top :
-    (links parents : List ℕ) (search : Search) {n : ℕ} {marks : List ℕ} {e k : ℕ} {row₀ : List ℕ} {a b : Side}
+    (links parents : List ℕ) (search : Search) {n : ℕ} {asked : List ℕ} {e k : ℕ} {row₀ : List ℕ} {a b : Side}
     {row : List ℕ} {m : ℕ}
-    → Turn (netOf links parents search) n marks e k row₀ a b row m → a .climb .node ≡ search .root → ⊥
+    → Turn (netOf links parents search) n asked e k row₀ a b row m → a .climb .node ≡ search .root → ⊥
 unfolding treeOf netOf
 not-top links parents search turn = below-root turn

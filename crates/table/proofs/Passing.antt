@@ -21,7 +21,7 @@ use Rattle.tree.proofs.InRows.{treeIn, at-root, off-root}
 use Rattle.sound.specs.Sound.{netVerdict}
 use Rattle.sound.proofs.Sounds.{sound}
 use Rattle.sound.proofs.Holding.{up-in}
-use Rattle.swap.specs.Fold.{deepest}
+use Rattle.swap.specs.Work.{deepest}
 use Rattle.table.specs.Work.{Holds, child, placed, Raised, kid, Passed}
 
 -- a place is its own place from the other side

@@ -16,8 +16,8 @@ use Rattle.tree.proofs.InRows.{treeIn, size-in}
 use Rattle.sound.specs.Sound.{netVerdict}
 use Rattle.sound.proofs.Sounds.{sound}
 use Rattle.sound.proofs.Holding.{nodes-few}
-use Rattle.swap.specs.Fold.{count, weight, deepest}
-use Rattle.swap.proofs.Prefixes.{entry-all}
+use Rattle.swap.specs.Work.{count, weight, deepest}
+use Rattle.table.proofs.Prefixes.{entry-all}
 use Rattle.table.specs.Table.{freshAt}
 use Rattle.table.specs.Work.{Holds, Counted, Entries, want, startAt, LinkedTo}
 use Rattle.table.proofs.BothSides.{first-row}
@@ -84,11 +84,11 @@ module _ (links parents : List ℕ) (search : Search) where
 
     -- a search from the cleared entries
     pub fresh-end :
-        (marks before row row′ : List ℕ)
-        → Entries (length parents) (startAt (search .root) marks before) before row
-        → LinkedTo g (length parents) marks (linksIn links) row row′
-        → Entries (length parents) (freshAt g marks before) before row′
+        (asked before row row′ : List ℕ)
+        → Entries (length parents) (startAt (search .root) asked before) before row
+        → LinkedTo g (length parents) asked (linksIn links) row row′
+        → Entries (length parents) (freshAt g asked before) before row′
     unfolding netOf freshAt want
-    fresh-end marks before row row′ h l =
+    fresh-end asked before row row′ h l =
         entries-same _ _ _ before row′ (λ x m. rw (entry-all g x))
-        (l .goes-on before (entries-same _ _ _ before row (λ x m. start-want g marks before x) h))
+        (l .goes-on before (entries-same _ _ _ before row (λ x m. start-want g asked before x) h))

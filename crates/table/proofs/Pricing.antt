@@ -20,8 +20,8 @@ use Rattle.tree.proofs.Bounded.{under-below}
 use Rattle.tree.proofs.InRows.{treeIn, size-in}
 use Rattle.sound.specs.Sound.{netVerdict}
 use Rattle.sound.proofs.Sounds.{Sound, sound}
-use Rattle.swap.specs.Swap.{lower, upper, newDist, cost, costOf}
-use Rattle.swap.specs.Fold.{count, base, turn, reach}
+use Rattle.swap.specs.Swap.{innerEnd, outerEnd, newDist, cost, costOf}
+use Rattle.swap.specs.Work.{count, base, turn, reach}
 use Rattle.swap.proofs.Costing.{never-nearer, incr-is}
 use Rattle.swap.proofs.Folding.{sum-is, through-ends}
 use Rattle.swap.proofs.Reaching.{max-is, inside-bound}
@@ -60,10 +60,10 @@ module _ (links parents : List ℕ) (search : Search) where
     it : Link
     it = g .link e
 
-    hl : Home (treeIn links parents search) (lower (treeIn links parents search) (s .climb .node) (g .link e))
+    hl : Home (treeIn links parents search) (innerEnd (treeIn links parents search) (s .climb .node) (g .link e))
     hl = rw (c .low) hz
 
-    pl : under (treeIn links parents search) (s .climb .node) (lower (treeIn links parents search) (s .climb .node) (g .link e)) ≡ true
+    pl : under (treeIn links parents search) (s .climb .node) (innerEnd (treeIn links parents search) (s .climb .node) (g .link e)) ≡ true
     pl = rw (c .low) on
 
     -- the sum
@@ -85,13 +85,13 @@ module _ (links parents : List ℕ) (search : Search) where
         k
         ≡ dist (treeIn links parents search) (s .from) + g .link e .length + dist
         (treeIn links parents search)
-        (upper (treeIn links parents search) (s .climb .node) (g .link e))
+        (outerEnd (treeIn links parents search) (s .climb .node) (g .link e))
     ends =
         subst
         (λ (z : ℕ). k
         ≡ dist (treeIn links parents search) z + g .link e .length + dist
         (treeIn links parents search)
-        (upper (treeIn links parents search) (s .climb .node) (g .link e)))
+        (outerEnd (treeIn links parents search) (s .climb .node) (g .link e)))
         (c .low)
         (c .through-is ∙ through-ends (treeIn links parents search) (all-in links parents search ok) (s .climb .node) (g .link e) hl pl)
 
@@ -102,7 +102,7 @@ module _ (links parents : List ℕ) (search : Search) where
         subst
         (λ (z : ℕ). reach (treeIn links parents search) (s .climb .node) z +
         (g .link e .length + dist (treeIn links parents search)
-        (upper (treeIn links parents search) (s .climb .node) (g .link e)))
+        (outerEnd (treeIn links parents search) (s .climb .node) (g .link e)))
         ≡ s .reach + (k - dist (treeIn links parents search) (s .from)))
         (sym (c .low))
         (omega (arith, i .reach-is, ends))
@@ -117,9 +117,9 @@ module _ (links parents : List ℕ) (search : Search) where
     own-new :
         newDist (treeIn links parents search) (s .climb .node) (g .link e) (s .climb .node)
         ≡ apart (treeIn links parents search) (s .climb .node)
-        (lower (treeIn links parents search) (s .climb .node) (g .link e)) + netOf links
+        (innerEnd (treeIn links parents search) (s .climb .node) (g .link e)) + netOf links
         parents search .link e .length + dist (treeIn links parents search)
-        (upper (treeIn links parents search) (s .climb .node) (g .link e))
+        (outerEnd (treeIn links parents search) (s .climb .node) (g .link e))
     unfolding newDist
     own-new = refl
 
@@ -132,7 +132,7 @@ module _ (links parents : List ℕ) (search : Search) where
           never-nearer g fine (s .climb .node) e (c .there) (c .cross) (s .climb .node) x-in,
           own-new,
           apart-below (treeIn links parents search) (s .climb .node)
-              (lower (treeIn links parents search) (s .climb .node) (g .link e)) hl pl,
+              (innerEnd (treeIn links parents search) (s .climb .node) (g .link e)) hl pl,
           c .through-is ∙ through-ends (treeIn links parents search) (all-in links parents search ok) (s .climb .node) (g .link e) hl pl,
         )
 
@@ -145,7 +145,7 @@ module _ (links parents : List ℕ) (search : Search) where
           ends,
           dist-few links parents search ok held (s .from),
           dist-few links parents search ok held
-              (upper (treeIn links parents search) (s .climb .node) (g .link e)),
+              (outerEnd (treeIn links parents search) (s .climb .node) (g .link e)),
           length-held links held e,
         )
 

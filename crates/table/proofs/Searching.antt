@@ -10,9 +10,9 @@ use borrow.Author.Tests.{eqb-true, eqb-false, ltb-true, ltb-false, lt-ltb, le-lt
 use Rattle.edition.specs.declared.Entry.{Entry}
 use Rattle.edition.specs.Entries.{rootState, bridgeState, blank}
 use Rattle.network.specs.Network.{Net}
-use Rattle.swap.proofs.Prefixes.{entry-top, entry-none}
+use Rattle.table.proofs.Prefixes.{entry-top, entry-none}
 use Rattle.entries.specs.Row.{entryRow, entriesIn, standing, putEntry}
-use Rattle.table.specs.Table.{marked}
+use Rattle.table.specs.Table.{isAsked}
 use Rattle.table.specs.Work.{Entries, want, startAt, Linked, LinkedTo}
 use Rattle.table.proofs.Slots.{entries-put}
 use Rattle.table.proofs.Offering.{entries-same}
@@ -38,83 +38,83 @@ node-more k new old x = go (eqb k x) refl (ltb x k) refl
     go false p true q = rw (p, q, lt-ltb x (suc k) (omega (arith, ltb-true x k q)))
     go false p false q = rw (p, q, le-ltb x (suc k) (omega (arith, ltb-false x k q, eqb-false k x p)))
 
-unmarked-stands : (root : ℕ) (marks before : List ℕ) (x : ℕ) → marked marks x ≡ false → startAt root marks before x ≡ standing before x
+unmarked-stands : (root : ℕ) (asked before : List ℕ) (x : ℕ) → isAsked asked x ≡ false → startAt root asked before x ≡ standing before x
 unfolding startAt
-unmarked-stands root marks before x e = rw e
+unmarked-stands root asked before x e = rw e
 
 marked-starts :
-    (root : ℕ) (marks before : List ℕ) (x : ℕ)
-    → marked marks x ≡ true → startAt root marks before x ≡ entryRow (blank (cond (eqb x root) rootState bridgeState))
+    (root : ℕ) (asked before : List ℕ) (x : ℕ)
+    → isAsked asked x ≡ true → startAt root asked before x ≡ entryRow (blank (cond (eqb x root) rootState bridgeState))
 unfolding startAt
-marked-starts root marks before x e = rw e
+marked-starts root asked before x e = rw e
 
-module _ (root : ℕ) (marks before : List ℕ) (n : ℕ) where
-  pub clear-start : Entries n (upToNode 0 (startAt root marks before) (standing before)) before before
+module _ (root : ℕ) (asked before : List ℕ) (n : ℕ) where
+  pub clear-start : Entries n (upToNode 0 (startAt root asked before) (standing before)) before before
   clear-start = entries-same n (standing before) _ before before (λ x l. rw (le-ltb x 0 (omega arith))) (entries-stand n before)
 
   module _ (k : ℕ) (l : k < n) (room : n ≤ entriesIn before) (row : List ℕ)
-      (h : Entries n (upToNode k (startAt root marks before) (standing before)) before row) where
+      (h : Entries n (upToNode k (startAt root asked before) (standing before)) before row) where
     abbrev first : Entry
     first = blank (cond (eqb k root) rootState bridgeState)
 
-    clear-none : marked marks k ≡ false → Entries n (upToNode (suc k) (startAt root marks before) (standing before)) before row
+    clear-none : isAsked asked k ≡ false → Entries n (upToNode (suc k) (startAt root asked before) (standing before)) before row
     clear-none z =
-        entries-same n _ _ before row (λ x j. kept x (eqb k x) refl ∙ node-more k (startAt root marks before) (standing before) x) h
+        entries-same n _ _ before row (λ x j. kept x (eqb k x) refl ∙ node-more k (startAt root asked before) (standing before) x) h
       where
         kept :
             (x : ℕ) (b : Bool)
             → eqb k x ≡ b
-            → upToNode k (startAt root marks before) (standing before) x
-            ≡ cond b (startAt root marks before k) (upToNode k (startAt root marks before) (standing before) x)
+            → upToNode k (startAt root asked before) (standing before) x
+            ≡ cond b (startAt root asked before k) (upToNode k (startAt root asked before) (standing before) x)
         kept x true p =
             rw (le-ltb x k (omega (arith, eqb-true k x p)))
-            (ap (standing before) (sym (eqb-true k x p)) ∙ sym (unmarked-stands root marks before k z))
+            (ap (standing before) (sym (eqb-true k x p)) ∙ sym (unmarked-stands root asked before k z))
         kept x false p = refl
 
-    clear-one : marked marks k ≡ true → Entries n (upToNode (suc k) (startAt root marks before) (standing before)) before (putEntry row k first)
+    clear-one : isAsked asked k ≡ true → Entries n (upToNode (suc k) (startAt root asked before) (standing before)) before (putEntry row k first)
     clear-one z =
         entries-same n _ _ before _
-        (λ x j. ap (λ (r : List ℕ). cond (eqb k x) r (upToNode k (startAt root marks before) (standing before) x))
-        (sym (marked-starts root marks before k z))
-        ∙ node-more k (startAt root marks before) (standing before) x)
+        (λ x j. ap (λ (r : List ℕ). cond (eqb k x) r (upToNode k (startAt root asked before) (standing before) x))
+        (sym (marked-starts root asked before k z))
+        ∙ node-more k (startAt root asked before) (standing before) x)
         (entries-put n _ before row k first h l room)
 
     pub clear-more :
         (row′ : List ℕ)
-        → row′ ≡ cond (marked marks k) (putEntry row k (blank (cond (eqb k root) rootState bridgeState))) row
-        → Entries n (upToNode (k + 1) (startAt root marks before) (standing before)) before row′
-    clear-more row′ u = subst (λ (j : ℕ). Entries n (upToNode j (startAt root marks before) (standing before)) before row′) (next k) (go (marked marks k) refl)
+        → row′ ≡ cond (isAsked asked k) (putEntry row k (blank (cond (eqb k root) rootState bridgeState))) row
+        → Entries n (upToNode (k + 1) (startAt root asked before) (standing before)) before row′
+    clear-more row′ u = subst (λ (j : ℕ). Entries n (upToNode j (startAt root asked before) (standing before)) before row′) (next k) (go (isAsked asked k) refl)
       where
-        go : (b : Bool) → marked marks k ≡ b → Entries n (upToNode (suc k) (startAt root marks before) (standing before)) before row′
+        go : (b : Bool) → isAsked asked k ≡ b → Entries n (upToNode (suc k) (startAt root asked before) (standing before)) before row′
         go true z = rw (u, z) (clear-one z)
         go false z = rw (u, z) (clear-none z)
 
   pub clear-end :
       (k : ℕ)
-      → n ≤ k → (row : List ℕ) → Entries n (upToNode k (startAt root marks before) (standing before)) before row
-      → Entries n (startAt root marks before) before row
+      → n ≤ k → (row : List ℕ) → Entries n (upToNode k (startAt root asked before) (standing before)) before row
+      → Entries n (startAt root asked before) before row
   clear-end k l row h = entries-same n _ _ before row (λ x m. rw (lt-ltb x k (omega (arith, l, m)))) h
 
 -- before any link
-pub start-want : (g : Net) (marks before : List ℕ) (x : ℕ) → startAt (g .search .root) marks before x ≡ want g marks before 0 x
+pub start-want : (g : Net) (asked before : List ℕ) (x : ℕ) → startAt (g .search .root) asked before x ≡ want g asked before 0 x
 unfolding startAt want
-start-want g marks before x = go (eqb x (g .search .root)) refl
+start-want g asked before x = go (eqb x (g .search .root)) refl
   where
-    go : (b : Bool) → eqb x (g .search .root) ≡ b → startAt (g .search .root) marks before x ≡ want g marks before 0 x
+    go : (b : Bool) → eqb x (g .search .root) ≡ b → startAt (g .search .root) asked before x ≡ want g asked before 0 x
     go true p = rw (p, entry-top g x p 0)
     go false p = rw (p, entry-none g x p)
 
 -- link after link
-pub to-none : (g : Net) (n : ℕ) (marks row : List ℕ) → LinkedTo g n marks 0 row row
-to-none g n marks row = record { size = refl; goes-on = λ before h. h }
+pub to-none : (g : Net) (n : ℕ) (asked row : List ℕ) → LinkedTo g n asked 0 row row
+to-none g n asked row = record { size = refl; goes-on = λ before h. h }
 
 pub to-more :
-    (g : Net) (n : ℕ) (marks : List ℕ) (k : ℕ) (row row′ row″ : List ℕ)
-    → LinkedTo g n marks k row row′ → length row″ ≡ length row′ → Linked g n marks k row′ row″
-    → LinkedTo g n marks (k + 1) row row″
-to-more g n marks k row row′ row″ i z l =
-    subst (λ (j : ℕ). LinkedTo g n marks j row row″) (next k)
+    (g : Net) (n : ℕ) (asked : List ℕ) (k : ℕ) (row row′ row″ : List ℕ)
+    → LinkedTo g n asked k row row′ → length row″ ≡ length row′ → Linked g n asked k row′ row″
+    → LinkedTo g n asked (k + 1) row row″
+to-more g n asked k row row′ row″ i z l =
+    subst (λ (j : ℕ). LinkedTo g n asked j row row″) (next k)
     (record { size = z ∙ i .size; goes-on = λ before h. l .goes-on before (i .goes-on before h) })
 
-pub to-all : (g : Net) (n : ℕ) (marks : List ℕ) (k m : ℕ) (row row′ : List ℕ) → k ≡ m → LinkedTo g n marks k row row′ → LinkedTo g n marks m row row′
-to-all g n marks k m row row′ q i = subst (λ (j : ℕ). LinkedTo g n marks j row row′) q i
+pub to-all : (g : Net) (n : ℕ) (asked : List ℕ) (k m : ℕ) (row row′ : List ℕ) → k ≡ m → LinkedTo g n asked k row row′ → LinkedTo g n asked m row row′
+to-all g n asked k m row row′ q i = subst (λ (j : ℕ). LinkedTo g n asked j row row′) q i

@@ -20,7 +20,7 @@ use Rattle.tree.proofs.Bounded.{under-below}
 use Rattle.tree.proofs.Climbing.{along-start, along-step, on-parent}
 use Rattle.tree.proofs.InRows.{treeIn, size-in, off-root, few}
 use Rattle.sound.specs.Sound.{netVerdict}
-use Rattle.swap.specs.Fold.{deepest, beside, aside, reach}
+use Rattle.swap.specs.Work.{deepest, beside, aside, reach}
 use Rattle.swap.proofs.Reaching.{reach-start, reach-step, aside-more}
 use Rattle.table.specs.declared.Side.{Side}
 use Rattle.table.specs.Work.{Holds, Asides, Carries}

@@ -21,7 +21,7 @@ use Rattle.sound.proofs.Handing.{sound-told, handed-then}
 use Rattle.sound.proofs.Sounds.{sound}
 use Rattle.sound.proofs.Holding.{nodes-few}
 use Rattle.swap.specs.Entry.{entry}
-use Rattle.table.specs.Table.{marked, freshAt, tableVerdict, entryVerdict, entryAnswer}
+use Rattle.table.specs.Table.{isAsked, freshAt, tableVerdict, entryVerdict, entryAnswer}
 use Rattle.table.specs.declared.EntryAnswer.the-variants.{Is, Not}
 use Rattle.table.specs.Work.{Entries}
 use Rattle.entries.specs.Row.{entriesIn, entryAt}
@@ -52,8 +52,8 @@ bare-verdict g Taken q =
     room = omega (arith, nodes-few g (sound g q), length-replicate {A = ℕ} entryRoom 0)
 bare-verdict g (Refused r) q = head-refuses _ _ r q
 
-mark-set : (x : ℕ) → x < nodeLimit → marked (onlyMark x) x ≡ true
-unfolding marked
+mark-set : (x : ℕ) → x < nodeLimit → isAsked (onlyMark x) x ≡ true
+unfolding isAsked
 mark-set x l =
     rw (getD-set-same {A = ℕ} (replicate nodeLimit 0) x 1 0 (omega (arith, l, length-replicate {A = ℕ} nodeLimit 0)))
 

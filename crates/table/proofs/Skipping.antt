@@ -22,7 +22,7 @@ use Rattle.sound.specs.Sound.{netVerdict}
 use Rattle.sound.proofs.Sounds.{Sound, sound}
 use Rattle.sound.proofs.Holding.{first-in, second-in, ends-differ, links-few, home}
 use Rattle.swap.specs.Swap.{crosses}
-use Rattle.swap.specs.Fold.{through}
+use Rattle.swap.specs.Work.{through}
 use Rattle.network.proofs.Whole.{length-held}
 use Rattle.table.specs.Work.{Holds, Carries, Spare, Starting, Linked}
 use Rattle.table.specs.declared.Side.{Side}
@@ -34,9 +34,9 @@ differ-same : (a : Bool) → differ a a ≡ false
 differ-same true = refl
 differ-same false = refl
 
-linked-none : (g : Net) (n : ℕ) (marks : List ℕ) (e : ℕ) (row : List ℕ) → ((x : ℕ) → crosses (treeOf g) x e (g .link e) ≡ false) → Linked g n marks e row row
-linked-none g n marks e row c =
-    record { goes-on = λ before h. entries-same _ _ _ before row (λ x l. sym (want-kept g marks before e x (c x))) h }
+linked-none : (g : Net) (n : ℕ) (asked : List ℕ) (e : ℕ) (row : List ℕ) → ((x : ℕ) → crosses (treeOf g) x e (g .link e) ≡ false) → Linked g n asked e row row
+linked-none g n asked e row c =
+    record { goes-on = λ before h. entries-same _ _ _ before row (λ x l. sym (want-kept g asked before e x (c x))) h }
 
 module _ (g : Net) (s : Sound g) (e : ℕ) (there : e < g .links) where
   -- the root has no parent link
@@ -118,18 +118,18 @@ module _ (links parents : List ℕ) (search : Search) where
     unfolding netOf
     second-node = rw lq (second-in g fine e in-net)
 
-    module _ (n : ℕ) (marks row : List ℕ) where
-      pub skip-idle : (b : Bool) → b ≡ inService l → b ≡ false → Linked g n marks e row row
-      skip-idle b q p = linked-none _ n marks e row (idle _ fine e in-net (ap inService link-is ∙ sym q ∙ p))
+    module _ (n : ℕ) (asked row : List ℕ) where
+      pub skip-idle : (b : Bool) → b ≡ inService l → b ≡ false → Linked g n asked e row row
+      skip-idle b q p = linked-none _ n asked e row (idle _ fine e in-net (ap inService link-is ∙ sym q ∙ p))
 
-      pub skip-first : (p : ℕ) → p ≡ getD parents (l .first) noLink → p ≡ e → Linked g n marks e row row
-      skip-first p q r = linked-none _ n marks e row (own-first _ fine e in-net it)
+      pub skip-first : (p : ℕ) → p ≡ getD parents (l .first) noLink → p ≡ e → Linked g n asked e row row
+      skip-first p q r = linked-none _ n asked e row (own-first _ fine e in-net it)
         where
           it : g .parent (g .link e .first) ≡ e
           it = rw link-is (parent-is _ ∙ sym q ∙ r)
 
-      pub skip-second : (p : ℕ) → p ≡ getD parents (l .second) noLink → p ≡ e → Linked g n marks e row row
-      skip-second p q r = linked-none _ n marks e row (own-second _ fine e in-net it)
+      pub skip-second : (p : ℕ) → p ≡ getD parents (l .second) noLink → p ≡ e → Linked g n asked e row row
+      skip-second p q r = linked-none _ n asked e row (own-second _ fine e in-net it)
         where
           it : g .parent (g .link e .second) ≡ e
           it = rw link-is (parent-is _ ∙ sym q ∙ r)

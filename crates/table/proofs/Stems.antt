@@ -23,7 +23,7 @@ use Rattle.sound.specs.Sound.{netVerdict}
 use Rattle.sound.proofs.Sounds.{Sound, sound}
 use Rattle.sound.proofs.Holding.{home, up-in}
 use Rattle.swap.specs.Swap.{inside}
-use Rattle.swap.specs.Fold.{count, weight, stemAt, stem, base, turn}
+use Rattle.swap.specs.Work.{count, weight, stemAt, stem, base, turn}
 use Rattle.swap.proofs.Costing.{inside-small}
 use Rattle.swap.proofs.Folding.{count-up, stem-step}
 use Rattle.table.specs.Work.{Holds, Stemming}

@@ -11,7 +11,7 @@ use Rattle.tree.specs.Tree.{Tree, route, under, meet}
 use Rattle.tree.proofs.Ways.{Home, under-self, under-trans}
 use Rattle.tree.proofs.Meeting.{under-both}
 use Rattle.swap.specs.Swap.{inside}
-use Rattle.swap.specs.Fold.{count}
+use Rattle.swap.specs.Work.{count}
 use Rattle.swap.proofs.Costing.{inside-in, inside-out}
 
 module _ (t : Tree) (all : (u : ℕ) → u < t .size → Home t u) where

@@ -26,7 +26,7 @@ use Rattle.sound.proofs.Handing.{sound-told, handed-then}
 use Rattle.sound.proofs.Sounds.{sound}
 use Rattle.sound.proofs.Holding.{nodes-few}
 use Rattle.swap.specs.Entry.{entry}
-use Rattle.table.specs.Table.{table, marked, freshAt, tableVerdict, tableRow, freshRow}
+use Rattle.table.specs.Table.{table, isAsked, freshAt, tableVerdict, tableRow, freshRow}
 use Rattle.table.specs.Work.{Entries}
 use Rattle.table.proofs.Slots.{entries-list}
 
@@ -52,22 +52,22 @@ module _ (g : Net) (row : List ℕ) where
   table-room v q t =
       ltb-false (entriesIn row) (g .nodes) (if-taken _ NoRoom 0 (head-taken _ _ (rest-taken _ _ (sym q ∙ t))))
 
-  module _ (marks : List ℕ) where
+  module _ (asked : List ℕ) where
     pub fresh-taken :
         (v : Verdict)
-        → v ≡ tableVerdict g row → v ≡ Taken → (row′ : List ℕ) → Entries (g .nodes) (freshAt g marks row) row row′
-        → (Taken ≡ tableVerdict g row) × (row′ ≡ freshRow g marks row)
+        → v ≡ tableVerdict g row → v ≡ Taken → (row′ : List ℕ) → Entries (g .nodes) (freshAt g asked row) row row′
+        → (Taken ≡ tableVerdict g row) × (row′ ≡ freshRow g asked row)
     unfolding freshRow
     fresh-taken v q t row′ h =
-        (sym t ∙ q, rw (← q, t) (entries-list (g .nodes) (freshAt g marks row) row row′ (table-room v q t) h))
+        (sym t ∙ q, rw (← q, t) (entries-list (g .nodes) (freshAt g asked row) row row′ (table-room v q t) h))
 
-    pub fresh-refused : (v : Verdict) (r : Refusal) → v ≡ tableVerdict g row → v ≡ Refused r → (v ≡ tableVerdict g row) × (row ≡ freshRow g marks row)
+    pub fresh-refused : (v : Verdict) (r : Refusal) → v ≡ tableVerdict g row → v ≡ Refused r → (v ≡ tableVerdict g row) × (row ≡ freshRow g asked row)
     unfolding freshRow
     fresh-refused v r q t = (q, rw (← q, t))
 
   -- all nodes
-  one-marked : (x : ℕ) → x < nodeLimit → marked (replicate nodeLimit 1) x ≡ true
-  unfolding marked
+  one-marked : (x : ℕ) → x < nodeLimit → isAsked (replicate nodeLimit 1) x ≡ true
+  unfolding isAsked
   one-marked x l = rw (getD-replicate {A = ℕ} nodeLimit x 1 0 l)
 
   pub all-fresh : freshRow g (replicate nodeLimit 1) row ≡ tableRow g row

@@ -8,7 +8,7 @@ use Rattle.edition.specs.declared.Verdict.{Verdict}
 use Rattle.edition.specs.declared.Verdict.the-variants.{Taken, Refused}
 use Rattle.edition.specs.declared.Why.the-variants.{NoRoute, NoRoom}
 use Rattle.edition.specs.declared.Entry.{Entry}
-use Rattle.edition.specs.Refusals.{made}
+use Rattle.edition.specs.Refusals.{ifTaken}
 use Rattle.entries.specs.Row.{entryRow, entriesIn, standing, pastEntries}
 use Rattle.rows.specs.Count.{rowsTo}
 use Rattle.rows.specs.First.{refuseIf, firstly}
@@ -28,7 +28,7 @@ tableVerdict g row = firstly (netVerdict g ∷ refuseIf (ltb (entriesIn row) (g 
 
 -- What the lent row then holds: the table and what lay past it, or on a refusal what it held.
 unfoldable pub tableRow : Net → List ℕ → List ℕ
-tableRow g row = let new = table g ++ pastEntries (g .nodes) row in made (tableVerdict g row) new row
+tableRow g row = let new = table g ++ pastEntries (g .nodes) row in ifTaken (tableVerdict g row) new row
 
 -- One node's entry: 1 to 9, then 8 at x where x is no node.
 unfoldable pub entryVerdict : Net → ℕ → Verdict
@@ -39,19 +39,20 @@ abbrev pub entryIf : Verdict → Entry → EntryAnswer
 entryIf Taken e = Is e
 entryIf (Refused r) e = Not r
 
+-- What the call answers: the entry of x, or the refusal.
 unfoldable pub entryAnswer : Net → ℕ → EntryAnswer
 entryAnswer g x = entryIf (entryVerdict g x) (entry g x)
 
 -- Is a node among those to be worked out?
-unfoldable pub marked : List ℕ → ℕ → Bool
-marked marks x = not (eqb (getD marks x 0) 0)
+unfoldable pub isAsked : List ℕ → ℕ → Bool
+isAsked asked x = not (eqb (getD asked x 0) 0)
 
 -- The record of x: its entry's where x is marked, elsewhere as it stands.
 unfoldable pub freshAt : Net → List ℕ → List ℕ → ℕ → List ℕ
-freshAt g marks row x = cond (marked marks x) (entryRow (entry g x)) (standing row x)
+freshAt g asked row x = cond (isAsked asked x) (entryRow (entry g x)) (standing row x)
 
 -- The lent row with the entries of the marked nodes afresh, or on a refusal what it held.
 unfoldable pub freshRow : Net → List ℕ → List ℕ → List ℕ
-freshRow g marks row =
-    let new = rowsTo (freshAt g marks row) (g .nodes) ++ pastEntries (g .nodes) row in
-    made (tableVerdict g row) new row
+freshRow g asked row =
+    let new = rowsTo (freshAt g asked row) (g .nodes) ++ pastEntries (g .nodes) row in
+    ifTaken (tableVerdict g row) new row

@@ -11,15 +11,15 @@ use Rattle.rows.specs.Count.{sumTo, maxTo, onlyIf}
 use Rattle.edition.specs.declared.Measure.the-variants.{Sum, Incr, Max}
 use Rattle.network.specs.Network.{Net, inService}
 use Rattle.tree.specs.Tree.{Tree, treeOf, dist, under}
-use Rattle.swap.specs.declared.Costs.{Costs}
-use Rattle.swap.specs.Swap.{inside, lower, crosses, costOf}
-use Rattle.swap.specs.Fold.{count as countOf, stem, base as baseOf, turn as turnOf, deepest, aside, through, reach}
+use Rattle.table.specs.declared.Costs.{Costs}
+use Rattle.swap.specs.Swap.{inside, innerEnd, crosses, costOf}
+use Rattle.swap.specs.Work.{count as countOf, stem, base as baseOf, turn as turnOf, deepest, aside, through, reach}
 use Rattle.tree.specs.Work.{Along}
 use Rattle.swap.specs.Entry.{entry}
-use Rattle.swap.specs.Prefix.{firstLinks}
+use Rattle.table.specs.Prefix.{firstLinks}
 use Rattle.table.specs.declared.Side.{Side}
 use Rattle.entries.specs.Row.{entryRow, standing, pastEntries}
-use Rattle.table.specs.Table.{marked}
+use Rattle.table.specs.Table.{isAsked}
 
 -- a row holds f of each node
 pub record Holds (n : ℕ) (f : ℕ → ℕ) (row : List ℕ) : Type 0 where
@@ -113,7 +113,7 @@ pub record Carries (t : Tree) (z : ℕ) (s : Side) : Type 0 where
 pub record Crossing (g : Net) (e : ℕ) (s : Side) (k : ℕ) : Type 0 where
   pub there : e < g .links
   pub cross : crosses (treeOf g) (s .climb .node) e (g .link e) ≡ true
-  pub low : lower (treeOf g) (s .climb .node) (g .link e) ≡ s .from
+  pub low : innerEnd (treeOf g) (s .climb .node) (g .link e) ≡ s .from
   pub through-is : k ≡ through (treeOf g) (g .link e)
 
 -- what a link costs a node
@@ -131,14 +131,14 @@ pub record Ready (t : Tree) (n : ℕ) (near count bases turns : List ℕ) : Type
 
 -- the record of x after k links: worked out where it is marked, as it stood elsewhere
 unfoldable pub want : Net → List ℕ → List ℕ → ℕ → ℕ → List ℕ
-want g marks before k x = cond (marked marks x) (entryRow (entry (firstLinks g k) x)) (standing before x)
+want g asked before k x = cond (isAsked asked x) (entryRow (entry (firstLinks g k) x)) (standing before x)
 
 -- link e offered at x: the record of x, and no other, goes on from e links to one more
-pub record OfferedAt (g : Net) (n : ℕ) (marks : List ℕ) (e x : ℕ) (row row′ : List ℕ) : Type 0 where
+pub record OfferedAt (g : Net) (n : ℕ) (asked : List ℕ) (e x : ℕ) (row row′ : List ℕ) : Type 0 where
   pub goes-on :
       (before : List ℕ) (f : ℕ → List ℕ)
-      → Entries n f before row → f x ≡ want g marks before e x
-      → Entries n (λ y. cond (eqb x y) (want g marks before (suc e) y) (f y)) before row′
+      → Entries n f before row → f x ≡ want g asked before e x
+      → Entries n (λ y. cond (eqb x y) (want g asked before (suc e) y) (f y)) before row′
 
 -- hops within a depth
 unfoldable pub withinBy : ℕ → ℕ → Bool
@@ -153,8 +153,8 @@ pub record Spare (g : Net) (e k : ℕ) : Type 0 where
   pub through-is : k ≡ through (treeOf g) (g .link e)
 
 -- a row of entries goes on from e links to one more
-pub record Linked (g : Net) (n : ℕ) (marks : List ℕ) (e : ℕ) (row row′ : List ℕ) : Type 0 where
-  pub goes-on : (before : List ℕ) → Entries n (want g marks before e) before row → Entries n (want g marks before (suc e)) before row′
+pub record Linked (g : Net) (n : ℕ) (asked : List ℕ) (e : ℕ) (row row′ : List ℕ) : Type 0 where
+  pub goes-on : (before : List ℕ) → Entries n (want g asked before e) before row → Entries n (want g asked before (suc e)) before row′
 
 -- two climbs at the ends of link e
 pub record Starting (g : Net) (e : ℕ) (a b : Side) : Type 0 where
@@ -165,11 +165,11 @@ pub record Starting (g : Net) (e : ℕ) (a b : Side) : Type 0 where
 
 -- the record of x before any link: the root's or a bridge's where x is marked, as it stood elsewhere
 unfoldable pub startAt : ℕ → List ℕ → List ℕ → ℕ → List ℕ
-startAt root marks before x =
+startAt root asked before x =
     let first = blank (cond (eqb x root) rootState bridgeState) in
-    cond (marked marks x) (entryRow first) (standing before x)
+    cond (isAsked asked x) (entryRow first) (standing before x)
 
 -- a row of entries goes on from no links to k
-pub record LinkedTo (g : Net) (n : ℕ) (marks : List ℕ) (k : ℕ) (row row′ : List ℕ) : Type 0 where
+pub record LinkedTo (g : Net) (n : ℕ) (asked : List ℕ) (k : ℕ) (row row′ : List ℕ) : Type 0 where
   pub size : length row′ ≡ length row
-  pub goes-on : (before : List ℕ) → Entries n (want g marks before 0) before row → Entries n (want g marks before k) before row′
+  pub goes-on : (before : List ℕ) → Entries n (want g asked before 0) before row → Entries n (want g asked before k) before row′

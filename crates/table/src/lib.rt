@@ -3,7 +3,7 @@ ghost use mathlib.Core.Path.{_≡_};
 ghost use Prim.Native.Nat.{_+_, _*_, _<_, _≤_, _^_, max};
 ghost use lib.ListN.{length, getD};
 ghost use lib.Dec.{eqb};
-ghost use mathlib.Core.Bool.{cond};
+ghost use mathlib.Core.Bool.{true, false, cond};
 ghost use Rattle.entries.specs.Row.{entriesIn, putEntry};
 ghost use Rattle.edition.specs.Entries.{blank, rootState, bridgeState};
 ghost use Rattle.edition.specs.declared.Verdict.the-variants.{Taken};
@@ -12,20 +12,35 @@ ghost use Rattle.rows.specs.Count.{rowWith};
 ghost use Rattle.tree.specs.Tree.{treeOf, dist};
 ghost use Rattle.sound.specs.Sound.{netVerdict};
 ghost use Rattle.swap.specs.Entry.{entry};
-ghost use Rattle.swap.specs.Fold.{count as countOf, weight as weightOf, stem, base as baseOf, turn as turnOf, deepest};
+ghost use Rattle.swap.specs.Work.{count as countOf, weight as weightOf, stem, base as baseOf, turn as turnOf, deepest};
 ghost use Rattle.table.specs.Work.{Holds, FoldedAt, Foldable, Added, Counted, placed, Raised, Passed, Asides, Carries, Crossing, Priced, Ready};
 ghost use Rattle.table.specs.Work.{OfferedAt, withinBy, Spare, Starting, Linked, LinkedTo, Entries, startAt};
-ghost use Rattle.table.specs.Table.{marked, freshAt, tableVerdict, freshRow, tableRow, entryVerdict, entryAnswer};
+ghost use Rattle.table.specs.Prefix.{better, kept, offered};
+ghost use Rattle.table.specs.Table.{isAsked, freshAt, tableVerdict, freshRow, tableRow, entryVerdict, entryAnswer};
 use edition::Edition;
 use edition::Entry;
 use edition::Memory;
 use edition::Refusal;
 use edition::Search;
+use edition::Swap;
 use edition::Verdict;
 use edition::Why;
 use sound::Checked;
-use swap::Costs;
 use tree::Climb;
+
+// A candidate under a measure: its link number, its cost under it, and its incr cost.
+struct Offer {
+    pub link: u64,
+    pub cost: u64,
+    pub incr: u64,
+}
+
+// What a link costs a node under each measure.
+struct Costs {
+    pub sum: u64,
+    pub incr: u64,
+    pub max: u64,
+}
 
 // A climb from the lower end of a link, with the largest tree distance from there to a node below where it is.
 pub struct Side {
@@ -138,7 +153,9 @@ fn stem_of(
         × Holds n (dist t) (now near)
         × Holds n (countOf t) (now count)
         × (x < n) ⌝ }
-    ensures { λ r. ⌜ r ≡ stem (treeOf (netOf (now (links .entry)) (now (parents .entry)) search)) x ⌝ }
+    ensures { λ r.
+        let g = netOf (now (links .entry)) (now (parents .entry)) search in
+        ⌜ r ≡ stem (treeOf g) x ⌝ }
 {
     let mut c = x;
     let mut sum: u64 = 0;
@@ -389,6 +406,100 @@ fn is_within(depth: u16, hops: usize) -> bool
     hops <= depth as usize
 }
 
+// Whether one candidate is better than another: it costs less, or as much and has the lower number.
+fn is_better(a: Offer, b: Offer) -> bool
+    ensures { λ r. ⌜ r ≡ better a b ⌝ }
+{
+    if a.cost < b.cost {
+        return true;
+    }
+    if a.cost == b.cost {
+        return a.link < b.link;
+    }
+    false
+}
+
+// The better of a swap link, where there is one yet, and a candidate.
+fn keep(had: bool, old: Swap, new: Offer) -> Swap
+    ensures { λ r. ⌜ r ≡ kept had old new ⌝ }
+{
+    let it = Swap {
+        link: new.link,
+        cost: new.cost,
+    };
+    if !had {
+        return it;
+    }
+    let standing = Offer {
+        link: old.link,
+        cost: old.cost,
+        incr: 0,
+    };
+    if is_better(new, standing) {
+        return it;
+    }
+    old
+}
+
+// The entry with one more link that crosses within the depth.
+fn with_candidate(old: Entry, e: u64, c: Costs) -> Entry
+    ensures { λ r. ⌜ r ≡ offered old true e c ⌝ }
+{
+    let had = old.state == Edition::SWAP;
+    let sum = Offer {
+        link: e,
+        cost: c.sum,
+        incr: c.incr,
+    };
+    let incr = Offer {
+        link: e,
+        cost: c.incr,
+        incr: c.incr,
+    };
+    let max = Offer {
+        link: e,
+        cost: c.max,
+        incr: c.incr,
+    };
+    let s = old.sum;
+    let i = old.incr;
+    let m = old.max;
+    Entry {
+        state: Edition::SWAP,
+        sum: keep(had, s, sum),
+        incr: keep(had, i, incr),
+        max: keep(had, m, max),
+    }
+}
+
+// The entry with one more link that crosses too deep.
+fn with_crossing(old: Entry, e: u64, c: Costs) -> Entry
+    ensures { λ r. ⌜ r ≡ offered old false e c ⌝ }
+{
+    if old.state == Edition::SWAP {
+        return old;
+    }
+    let s = old.sum;
+    let i = old.incr;
+    let m = old.max;
+    Entry {
+        state: Edition::NONE,
+        sum: s,
+        incr: i,
+        max: m,
+    }
+}
+
+// The entry with one more link that crosses, within the depth or not.
+fn with_link(old: Entry, near: bool, e: u64, c: Costs) -> Entry
+    ensures { λ r. ⌜ r ≡ offered old near e c ⌝ }
+{
+    if near {
+        return with_candidate(old, e, c);
+    }
+    with_crossing(old, e, c)
+}
+
 // Offers link e to the node where the climb is, where that node is marked.
 fn offer_at(
     links: &[u16],
@@ -398,7 +509,7 @@ fn offer_at(
     count: &[u64],
     bases: &[u64],
     turns: &[u64],
-    marks: &[u64],
+    asked: &[u64],
     entries: &mut [u64],
     side: Side,
     e: usize,
@@ -416,11 +527,11 @@ fn offer_at(
         × (n ≤ entriesIn (now entries)) ⌝ }
     ensures { λ _.
         let g = netOf (now (links .entry)) (now (parents .entry)) search in
-        ⌜ OfferedAt g (length (now (parents .entry))) (now (marks .entry)) e (side .climb .node) (now (entries .entry)) (now (entries .exit)) ⌝ }
+        ⌜ OfferedAt g (length (now (parents .entry))) (now (asked .entry)) e (side .climb .node) (now (entries .entry)) (now (entries .exit)) ⌝ }
 {
     let climb = side.climb;
     let x = climb.node;
-    if rows::wide_at(marks, x) == 0 {
+    if rows::wide_at(asked, x) == 0 {
         return;
     }
     let c = costs_of(
@@ -436,7 +547,7 @@ fn offer_at(
         k,
     );
     let near_enough = is_within(search.depth, climb.hops);
-    let new = swap::with_link(entries::entry_at(entries, x), near_enough, e as u64, c);
+    let new = with_link(entries::entry_at(entries, x), near_enough, e as u64, c);
     entries::put_entry(entries, x, new);
 }
 
@@ -466,7 +577,7 @@ fn climb_link(
     bases: &[u64],
     turns: &[u64],
     asides: &[u64],
-    marks: &[u64],
+    asked: &[u64],
     entries: &mut [u64],
     first: Side,
     second: Side,
@@ -484,7 +595,7 @@ fn climb_link(
         × (n ≤ entriesIn (now entries)) ⌝ }
     ensures { λ _.
         let g = netOf (now (links .entry)) (now (parents .entry)) search in
-        ⌜ Linked g (length (now (parents .entry))) (now (marks .entry)) e (now (entries .entry)) (now (entries .exit)) ⌝ }
+        ⌜ Linked g (length (now (parents .entry))) (now (asked .entry)) e (now (entries .entry)) (now (entries .exit)) ⌝ }
 {
     let mut a = first;
     let mut b = second;
@@ -502,7 +613,7 @@ fn climb_link(
             count,
             bases,
             turns,
-            marks,
+            asked,
             entries,
             a,
             e,
@@ -523,7 +634,7 @@ fn offer_link(
     bases: &[u64],
     turns: &[u64],
     asides: &[u64],
-    marks: &[u64],
+    asked: &[u64],
     entries: &mut [u64],
     e: usize,
 )
@@ -538,7 +649,7 @@ fn offer_link(
         × (e < linksIn (now links)) ⌝ }
     ensures { λ _.
         let g = netOf (now (links .entry)) (now (parents .entry)) search in
-        ⌜ Linked g (length (now (parents .entry))) (now (marks .entry)) e (now (entries .entry)) (now (entries .exit)) ⌝ }
+        ⌜ Linked g (length (now (parents .entry))) (now (asked .entry)) e (now (entries .entry)) (now (entries .exit)) ⌝ }
 {
     let l = network::link_at(links, e);
     if !network::in_service(l) {
@@ -564,7 +675,7 @@ fn offer_link(
         bases,
         turns,
         asides,
-        marks,
+        asked,
         entries,
         a,
         b,
@@ -584,29 +695,29 @@ fn first_entry(search: Search, x: usize) -> Entry
 }
 
 // The entry of x as it is before any link, where x is marked.
-fn clear_at(search: Search, marks: &[u64], entries: &mut [u64], x: usize)
+fn clear_at(search: Search, asked: &[u64], entries: &mut [u64], x: usize)
     ensures { λ _.
         let before = now (entries .entry) in
         let first = blank (cond (eqb x (search .root)) rootState bridgeState) in
-        ⌜ now (entries .exit) ≡ cond (marked (now (marks .entry)) x) (putEntry before x first) before ⌝ }
+        ⌜ now (entries .exit) ≡ cond (isAsked (now (asked .entry)) x) (putEntry before x first) before ⌝ }
 {
-    if rows::wide_at(marks, x) == 0 {
+    if rows::wide_at(asked, x) == 0 {
         return;
     }
     entries::put_entry(entries, x, first_entry(search, x));
 }
 
 // Each marked node's entry as it is before any link.
-fn clear_marked(parents: &[u16], search: Search, marks: &[u64], entries: &mut [u64])
+fn clear_marked(parents: &[u16], search: Search, asked: &[u64], entries: &mut [u64])
     requires { ⌜ length (now parents) ≤ entriesIn (now entries) ⌝ }
     ensures { λ _.
         let before = now (entries .entry) in
-        let first = startAt (search .root) (now (marks .entry)) before in
+        let first = startAt (search .root) (now (asked .entry)) before in
         ⌜ Entries (length (now (parents .entry))) first before (now (entries .exit)) ⌝ }
 {
     let mut x = 0;
     while x < parents.len() {
-        clear_at(search, marks, entries, x);
+        clear_at(search, asked, entries, x);
         x += 1;
     }
 }
@@ -622,7 +733,7 @@ fn offer_links(
     bases: &[u64],
     turns: &[u64],
     asides: &[u64],
-    marks: &[u64],
+    asked: &[u64],
     entries: &mut [u64],
 )
     requires { let g = netOf (now links) (now parents) search in
@@ -635,7 +746,7 @@ fn offer_links(
         × (n ≤ entriesIn (now entries)) ⌝ }
     ensures { λ _.
         let g = netOf (now (links .entry)) (now (parents .entry)) search in
-        ⌜ LinkedTo g (length (now (parents .entry))) (now (marks .entry)) (linksIn (now (links .entry))) (now (entries .entry)) (now (entries .exit)) ⌝ }
+        ⌜ LinkedTo g (length (now (parents .entry))) (now (asked .entry)) (linksIn (now (links .entry))) (now (entries .entry)) (now (entries .exit)) ⌝ }
 {
     let m = network::links_in(links);
     let mut e = 0;
@@ -650,7 +761,7 @@ fn offer_links(
             bases,
             turns,
             asides,
-            marks,
+            asked,
             entries,
             e,
         );
@@ -659,13 +770,13 @@ fn offer_links(
 }
 
 // The entries of the marked nodes afresh; all others, and what lies past the entries, stay as they are.
-fn search_marked(links: &[u16], parents: &[u16], search: Search, marks: &[u64], entries: &mut [u64])
+fn search_marked(links: &[u16], parents: &[u16], search: Search, asked: &[u64], entries: &mut [u64])
     requires { let g = netOf (now links) (now parents) search in
         ⌜ (netVerdict g ≡ Taken)
         × (length (now parents) ≤ entriesIn (now entries)) ⌝ }
     ensures { λ _.
         let g = netOf (now (links .entry)) (now (parents .entry)) search in
-        ⌜ Entries (length (now (parents .entry))) (freshAt g (now (marks .entry)) (now (entries .entry))) (now (entries .entry)) (now (entries .exit)) ⌝ }
+        ⌜ Entries (length (now (parents .entry))) (freshAt g (now (asked .entry)) (now (entries .entry))) (now (entries .entry)) (now (entries .exit)) ⌝ }
 {
     let mut near = [0u64; Memory::NODES];
     tree::distances(links, parents, search, &mut near);
@@ -695,7 +806,7 @@ fn search_marked(links: &[u16], parents: &[u16], search: Search, marks: &[u64], 
     );
     let mut asides = [0u64; Memory::NODES];
     fill_asides(links, parents, search, &deep, &mut asides);
-    clear_marked(parents, search, marks, entries);
+    clear_marked(parents, search, asked, entries);
     offer_links(
         links,
         parents,
@@ -706,7 +817,7 @@ fn search_marked(links: &[u16], parents: &[u16], search: Search, marks: &[u64], 
         &bases,
         &turns,
         &asides,
-        marks,
+        asked,
         entries,
     );
 }
@@ -729,19 +840,19 @@ pub fn refresh(
     links: &[u16],
     parents: &[u16],
     search: Search,
-    marks: &[u64],
+    asked: &[u64],
     entries: &mut [u64],
 ) -> Verdict
     ensures { λ r.
         let g = netOf (now (links .entry)) (now (parents .entry)) search in
         ⌜ (r ≡ tableVerdict g (now (entries .entry)))
-        × (now (entries .exit) ≡ freshRow g (now (marks .entry)) (now (entries .entry))) ⌝ }
+        × (now (entries .exit) ≡ freshRow g (now (asked .entry)) (now (entries .entry))) ⌝ }
 {
     let said = check_table(links, parents, search, entries);
     let Verdict::Taken = said else {
         return said;
     };
-    search_marked(links, parents, search, marks, entries);
+    search_marked(links, parents, search, asked, entries);
     Verdict::Taken
 }
 
@@ -752,13 +863,15 @@ pub fn table(links: &[u16], parents: &[u16], search: Search, entries: &mut [u64]
         ⌜ (r ≡ tableVerdict g (now (entries .entry)))
         × (now (entries .exit) ≡ tableRow g (now (entries .entry))) ⌝ }
 {
-    let marks = [1u64; Memory::NODES];
-    refresh(links, parents, search, &marks, entries)
+    let asked = [1u64; Memory::NODES];
+    refresh(links, parents, search, &asked, entries)
 }
 
 // Whether a number has an entry: refusals 1 to 9, then 8 where it is no node.
 pub fn check_entry(links: &[u16], parents: &[u16], search: Search, x: usize) -> Verdict
-    ensures { λ r. ⌜ r ≡ entryVerdict (netOf (now (links .entry)) (now (parents .entry)) search) x ⌝ }
+    ensures { λ r.
+        let g = netOf (now (links .entry)) (now (parents .entry)) search in
+        ⌜ r ≡ entryVerdict g x ⌝ }
 {
     let said = sound::check_network(links, parents, search);
     let Checked::Sound(sizes) = said else {
@@ -772,18 +885,22 @@ fn search_one(links: &[u16], parents: &[u16], search: Search, x: usize) -> Entry
     requires { let g = netOf (now links) (now parents) search in
         ⌜ (netVerdict g ≡ Taken)
         × (x < length (now parents)) ⌝ }
-    ensures { λ r. ⌜ r ≡ entry (netOf (now (links .entry)) (now (parents .entry)) search) x ⌝ }
+    ensures { λ r.
+        let g = netOf (now (links .entry)) (now (parents .entry)) search in
+        ⌜ r ≡ entry g x ⌝ }
 {
-    let mut marks = [0u64; Memory::NODES];
-    marks[x] = 1;
+    let mut asked = [0u64; Memory::NODES];
+    asked[x] = 1;
     let mut entries = [0u64; Memory::ENTRY_ROW];
-    search_marked(links, parents, search, &marks, &mut entries);
+    search_marked(links, parents, search, &asked, &mut entries);
     entries::entry_at(&entries, x)
 }
 
 // The entry of node x.
 pub fn entry_of(links: &[u16], parents: &[u16], search: Search, x: usize) -> EntryAnswer
-    ensures { λ r. ⌜ r ≡ entryAnswer (netOf (now (links .entry)) (now (parents .entry)) search) x ⌝ }
+    ensures { λ r.
+        let g = netOf (now (links .entry)) (now (parents .entry)) search in
+        ⌜ r ≡ entryAnswer g x ⌝ }
 {
     let said = check_entry(links, parents, search, x);
     match said {

@@ -7,3 +7,4 @@ pub mod InRows
 pub mod Writing
 pub mod Onto
 pub mod Answering
+pub mod Outcomes

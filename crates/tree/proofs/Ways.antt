@@ -20,7 +20,8 @@ pub data Way (t : Tree) : ℕ → List ℕ → Type 0 where
   hop : {u : ℕ} {r : List ℕ} → eqb u (t .root) ≡ false → Way t (t .up u) r → Way t u (u ∷ r)
 
 module _ (t : Tree) where
-  way-climb : (k u : ℕ) → arrives t k u ≡ true → Way t u (climb t k u)
+  -- whoever comes to the root within k nodes has the way that the climb writes
+  pub way-climb : (k u : ℕ) → arrives t k u ≡ true → Way t u (climb t k u)
   unfolding arrives climb
   way-climb zero u h = clash h refl
   way-climb (suc k) u h = go (way-climb k (t .up u)) (eqb u (t .root)) refl

@@ -9,7 +9,7 @@ use Rattle.edition.specs.declared.Verdict.{Verdict}
 use Rattle.edition.specs.declared.Verdict.the-variants.{Taken, Refused}
 use Rattle.edition.specs.declared.Why.the-variants.{NodeCount, NoRoute, NoRoom}
 use Rattle.edition.specs.Limits.{memoryLimits}
-use Rattle.edition.specs.Refusals.{made}
+use Rattle.edition.specs.Refusals.{ifTaken}
 use Rattle.rows.specs.Count.{rowWith}
 use Rattle.rows.specs.First.{refuseIf, firstly}
 use Rattle.network.specs.Network.{Net}
@@ -37,12 +37,13 @@ unfoldable pub roomVerdict : ℕ → ℕ → Verdict
 roomVerdict n room =
     firstly (refuseIf (badNodes memoryLimits n) NodeCount 0 ∷ refuseIf (ltb room n) NoRoom 0 ∷ [])
 
+-- The same of a network and a lent row.
 abbrev pub rowVerdict : Net → List ℕ → Verdict
 rowVerdict g row = roomVerdict (g .nodes) (length row)
 
 -- The row with d(u) of every node.
 unfoldable pub distanceRow : Net → List ℕ → List ℕ
-distanceRow g row = let new = rowWith (dist (treeOf g)) (g .nodes) row in made (rowVerdict g row) new row
+distanceRow g row = let new = rowWith (dist (treeOf g)) (g .nodes) row in ifTaken (rowVerdict g row) new row
 
 -- Is u no node, or without a route?
 unfoldable pub lost : Net → ℕ → Bool
@@ -70,7 +71,7 @@ unfoldable pub routeRow : Net → ℕ → List ℕ → List ℕ
 routeRow g u row =
     let way = route (treeOf g) u in
     let new = way ++ drop (length way) row in
-    made (routeVerdict g u row) new row
+    ifTaken (routeVerdict g u row) new row
 
 -- The length of the route of u.
 unfoldable pub routeAnswer : Net → ℕ → List ℕ → Answer

@@ -33,7 +33,9 @@ pub enum Answer {
 
 // The parent of u; the root is its own.
 pub fn up(links: &[u16], parents: &[u16], search: Search, u: usize) -> usize
-    ensures { λ r. ⌜ r ≡ treeOf (netOf (now (links .entry)) (now (parents .entry)) search) .up u ⌝ }
+    ensures { λ r.
+        let g = netOf (now (links .entry)) (now (parents .entry)) search in
+        ⌜ r ≡ treeOf g .up u ⌝ }
 {
     if u == search.root as usize {
         return u;
@@ -44,7 +46,9 @@ pub fn up(links: &[u16], parents: &[u16], search: Search, u: usize) -> usize
 
 // The length of the link from u to its parent; 0 at the root.
 pub fn rise(links: &[u16], parents: &[u16], search: Search, u: usize) -> u16
-    ensures { λ r. ⌜ r ≡ treeOf (netOf (now (links .entry)) (now (parents .entry)) search) .rise u ⌝ }
+    ensures { λ r.
+        let g = netOf (now (links .entry)) (now (parents .entry)) search in
+        ⌜ r ≡ treeOf g .rise u ⌝ }
 {
     if u == search.root as usize {
         return 0;
@@ -82,7 +86,9 @@ impl Climb {
 
 // Whether u has a route to the root. It ends after as many steps as there are nodes.
 pub fn has_route(links: &[u16], parents: &[u16], search: Search, u: usize) -> bool
-    ensures { λ r. ⌜ r ≡ hasRoute (treeOf (netOf (now (links .entry)) (now (parents .entry)) search)) u ⌝ }
+    ensures { λ r.
+        let g = netOf (now (links .entry)) (now (parents .entry)) search in
+        ⌜ r ≡ hasRoute (treeOf g) u ⌝ }
 {
     let mut node = u;
     let mut k = 0;
@@ -99,7 +105,9 @@ pub fn has_route(links: &[u16], parents: &[u16], search: Search, u: usize) -> bo
 // The climb from u to the root, or, where u has no route, of as many steps as there are nodes.
 fn to_root(links: &[u16], parents: &[u16], search: Search, u: usize) -> Climb
     requires { ⌜ length (now parents) ≤ nodeLimit ⌝ }
-    ensures { λ r. ⌜ Rooted (treeOf (netOf (now (links .entry)) (now (parents .entry)) search)) u r ⌝ }
+    ensures { λ r.
+        let g = netOf (now (links .entry)) (now (parents .entry)) search in
+        ⌜ Rooted (treeOf g) u r ⌝ }
 {
     let mut c = Climb::begin(u);
     let mut k = 0;
@@ -156,7 +164,9 @@ pub fn distances(links: &[u16], parents: &[u16], search: Search, row: &mut [u64]
 
 // Whether u is no node, or has no route to the root.
 fn is_lost(links: &[u16], parents: &[u16], search: Search, u: usize) -> bool
-    ensures { λ r. ⌜ r ≡ lost (netOf (now (links .entry)) (now (parents .entry)) search) u ⌝ }
+    ensures { λ r.
+        let g = netOf (now (links .entry)) (now (parents .entry)) search in
+        ⌜ r ≡ lost g u ⌝ }
 {
     if parents.len() <= u {
         return true;
@@ -166,7 +176,9 @@ fn is_lost(links: &[u16], parents: &[u16], search: Search, u: usize) -> bool
 
 // Refusals 1 and 8 of one node.
 pub fn check_way(links: &[u16], parents: &[u16], search: Search, u: usize) -> Verdict
-    ensures { λ r. ⌜ r ≡ wayVerdict (netOf (now (links .entry)) (now (parents .entry)) search) u ⌝ }
+    ensures { λ r.
+        let g = netOf (now (links .entry)) (now (parents .entry)) search in
+        ⌜ r ≡ wayVerdict g u ⌝ }
 {
     let nodes = network::check_nodes(Memory::limits(), parents.len());
     let Verdict::Taken = nodes else {
@@ -284,7 +296,9 @@ fn climb_to_meet(links: &[u16], parents: &[u16], search: Search, u: usize, z: us
 
 // Refusals 1, and 8 of two nodes.
 fn check_ways(links: &[u16], parents: &[u16], search: Search, u: usize, z: usize) -> Verdict
-    ensures { λ r. ⌜ r ≡ waysVerdict (netOf (now (links .entry)) (now (parents .entry)) search) u z ⌝ }
+    ensures { λ r.
+        let g = netOf (now (links .entry)) (now (parents .entry)) search in
+        ⌜ r ≡ waysVerdict g u z ⌝ }
 {
     let one = check_way(links, parents, search, u);
     let Verdict::Taken = one else {
@@ -295,7 +309,9 @@ fn check_ways(links: &[u16], parents: &[u16], search: Search, u: usize, z: usize
 
 // Where the routes of u and z first meet. Refusals 1, and 8 at u or z.
 pub fn meet_of(links: &[u16], parents: &[u16], search: Search, u: usize, z: usize) -> Answer
-    ensures { λ r. ⌜ r ≡ meetAnswer (netOf (now (links .entry)) (now (parents .entry)) search) u z ⌝ }
+    ensures { λ r.
+        let g = netOf (now (links .entry)) (now (parents .entry)) search in
+        ⌜ r ≡ meetAnswer g u z ⌝ }
 {
     let ways = check_ways(links, parents, search, u, z);
     let Verdict::Taken = ways else {
@@ -307,7 +323,9 @@ pub fn meet_of(links: &[u16], parents: &[u16], search: Search, u: usize, z: usiz
 
 // t(u,z), the length of the tree path from u to z. Refusals 1, and 8 at u or z.
 pub fn tree_distance(links: &[u16], parents: &[u16], search: Search, u: usize, z: usize) -> Answer
-    ensures { λ r. ⌜ r ≡ apartAnswer (netOf (now (links .entry)) (now (parents .entry)) search) u z ⌝ }
+    ensures { λ r.
+        let g = netOf (now (links .entry)) (now (parents .entry)) search in
+        ⌜ r ≡ apartAnswer g u z ⌝ }
 {
     let ways = check_ways(links, parents, search, u, z);
     let Verdict::Taken = ways else {

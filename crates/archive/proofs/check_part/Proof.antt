@@ -15,13 +15,16 @@ mul-at : tie.Need-mul-at
 mul-at c = omega (arith, c .before .before .pre .2)
 
 cast-check-block : tie.Need-cast-check-block
-cast-check-block c = omega (arith, c .before .before .pre .2)
+cast-check-block c = search needs
 
 cast-check-block-2 : tie.Need-cast-check-block-2
-cast-check-block-2 c = omega (arith, part-small _ _ _ _ (c .before .part-at .ensures))
+cast-check-block-2 c = omega (arith, c .before .before .before .pre .2)
+
+cast-check-block-3 : tie.Need-cast-check-block-3
+cast-check-block-3 c = omega (arith, part-small _ _ _ _ (c .before .before .part-at .ensures))
 
 add-check-block : tie.Need-add-check-block
-add-check-block c = omega (arith, c .before .before .before .pre .2)
+add-check-block c = omega (arith, c .before .before .before .before .pre .2)
 
 sub-check-block : tie.Need-sub-check-block
 sub-check-block c = search needs
@@ -30,15 +33,15 @@ part-check-block-start : tie.Need-part-check-block-start
 part-check-block-start c = search needs
 
 part-check-block-end : tie.Need-part-check-block-end
-part-check-block-end c = c .before .before .before .pre .3
+part-check-block-end c = c .before .before .before .before .pre .3
 
 check-block-requires : tie.Need-check-block-requires
 check-block-requires c κs = search needs
 
 returns : tie.Need-returns
 returns c =
-    let part-at = c .before .before .before .part-at in
-    let args = c .before .before .before .before .before .args in
+    let part-at = c .before .before .before .before .part-at in
+    let args = c .before .before .before .before .before .before .args in
     part-refusal _ _ _ _ _ (part-at .ensures) (args .i * blockBytes + blockBytes - args .i * blockBytes) (omega arith) _ (c .check-block .ensures)
 
 pub check-part-spec : {M : Type 1} → statement M
@@ -49,6 +52,7 @@ check-part-spec =
     mul-at
     cast-check-block
     cast-check-block-2
+    cast-check-block-3
     add-check-block
     sub-check-block
     part-check-block-start

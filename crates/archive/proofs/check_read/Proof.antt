@@ -83,8 +83,8 @@ returns-3 c =
     blocks-decide _ _ _ (check-head .ensures) (enum-told .given .1) _ (header-of .ensures) _ (file-length .ensures) _ (refuse-if .ensures)
     (enum-told3 .given .1) _ (c .before .before .check-blocks .ensures) _ (c .enum-told6 .given .1)
 
-is-tight-requires : tie.Need-is-tight-requires
-is-tight-requires c κs = search needs
+is-too-short-requires : tie.Need-is-too-short-requires
+is-too-short-requires c κs = search needs
 
 check-records-requires : tie.Need-check-records-requires
 check-records-requires c κs =
@@ -108,7 +108,7 @@ returns-4 c =
     let enum-told = c .before .before .before .before .before .before .before .before .before .before .enum-told in
     let check-head = c .before .before .before .before .before .before .before .before .before .before .before .before .check-head in
     records-decide _ _ _ (check-head .ensures) (enum-told .given .1) _ (header-of .ensures) _ (file-length .ensures) _ (refuse-if .ensures)
-    (enum-told3 .given .1) _ (check-blocks .ensures) (c .before .before .enum-told5 .given .1) _ (c .before .is-tight .ensures) _
+    (enum-told3 .given .1) _ (check-blocks .ensures) (c .before .before .enum-told5 .given .1) _ (c .before .is-too-short .ensures) _
     (c .check-records .ensures)
 
 pub check-read-spec : {M : Type 1} → statement M
@@ -129,6 +129,6 @@ check-read-spec =
     enum-told-5
     enum-told-6
     returns-3
-    is-tight-requires
+    is-too-short-requires
     check-records-requires
     returns-4)

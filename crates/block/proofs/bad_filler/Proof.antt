@@ -24,6 +24,9 @@ is-dirty-requires c κs = omega (arith, size-fits _ _ (c .before .before .pre .1
 returns : tie.Need-returns
 returns c = unused-dirty _ _ _ _ (c .before .before .bytes-of-record .ensures) _ (c .before .is-dirty .ensures) (c .if1 .taken)
 
+cast-if2 : tie.Need-cast-if2
+cast-if2 c = search needs
+
 returns-2 : tie.Need-returns-2
 returns-2 c =
     let bytes-of-record = c .before .before .before .bytes-of-record in
@@ -51,6 +54,7 @@ bad-filler-spec =
     sub-is-dirty
     is-dirty-requires
     returns
+    cast-if2
     returns-2
     has-dirty-entry-requires
     returns-3)

@@ -8,6 +8,9 @@ use Rattle.block.proofs.bad_front.Tie as tie
 shared-slice-read-if1 : tie.Need-shared-slice-read-if1
 shared-slice-read-if1 c = search needs
 
+cast-if1 : tie.Need-cast-if1
+cast-if1 c = omega (arith, c .before .shared-slice-known .given 0)
+
 returns : tie.Need-returns
 returns c =
     bad-kind _ _ _ _ (c .before .before .before .pre) (λ i. omega (arith, c .before .before .shared-slice-known .given i)) (search needs)
@@ -50,6 +53,7 @@ bad-front-spec =
     tie.close
     (tie.spec
     shared-slice-read-if1
+    cast-if1
     returns
     shared-slice-read-if2
     returns-2

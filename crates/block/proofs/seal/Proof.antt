@@ -1,5 +1,5 @@
 -- `block::seal` meets its contract. Assumes nothing.
-use Rattle.block.proofs.Sealing.{seal-short, seal-unheard, seal-room, seal-is}
+use Rattle.block.proofs.Sealing.{seal-short, seal-no-such, seal-room, seal-is}
 use native.Mathlib.Omega.{arith}
 use Rattle.block.proofs.Sizes.{size-fits}
 use mathlib.Core.Path.{sym, _∙_}
@@ -10,17 +10,17 @@ use Rattle.block.proofs.seal.Tie as tie
 returns : tie.Need-returns
 returns c = seal-short _ _ _ _ (c .if1 .taken)
 
-is-unheard-requires : tie.Need-is-unheard-requires
-is-unheard-requires c κs = search needs
+no-such-block-requires : tie.Need-no-such-block-requires
+no-such-block-requires c κs = search needs
 
 returns-2 : tie.Need-returns-2
-returns-2 c = seal-unheard _ _ _ _ (c .before .before .if1 .left) _ (c .before .is-unheard .ensures) (c .if2 .taken)
+returns-2 c = seal-no-such _ _ _ _ (c .before .before .if1 .left) _ (c .before .no-such-block .ensures) (c .if2 .taken)
 
 bytes-of-record-requires : tie.Need-bytes-of-record-requires
 bytes-of-record-requires c κs = search needs
 
 mul-size : tie.Need-mul-size
-mul-size c = omega (arith, size-fits _ _ (sym (c .before .before .is-unheard .ensures) ∙ c .before .if2 .left) _ (c .bytes-of-record .ensures))
+mul-size c = omega (arith, size-fits _ _ (sym (c .before .before .no-such-block .ensures) ∙ c .before .if2 .left) _ (c .bytes-of-record .ensures))
 
 put-front-requires : tie.Need-put-front-requires
 put-front-requires c κs = search needs
@@ -29,24 +29,24 @@ add-clear : tie.Need-add-clear
 add-clear c =
     let bytes-of-record = c .before .before .before .before .before .bytes-of-record in
     let if2 = c .before .before .before .before .before .before .if2 in
-    let is-unheard = c .before .before .before .before .before .before .before .is-unheard in
-    omega (arith, size-fits _ _ (sym (is-unheard .ensures) ∙ if2 .left) _ (bytes-of-record .ensures))
+    let no-such-block = c .before .before .before .before .before .before .before .no-such-block in
+    omega (arith, size-fits _ _ (sym (no-such-block .ensures) ∙ if2 .left) _ (bytes-of-record .ensures))
 
 sub-clear : tie.Need-sub-clear
 sub-clear c =
     let bytes-of-record = c .before .before .before .before .before .bytes-of-record in
     let if2 = c .before .before .before .before .before .before .if2 in
-    let is-unheard = c .before .before .before .before .before .before .before .is-unheard in
-    omega (arith, size-fits _ _ (sym (is-unheard .ensures) ∙ if2 .left) _ (bytes-of-record .ensures))
+    let no-such-block = c .before .before .before .before .before .before .before .no-such-block in
+    omega (arith, size-fits _ _ (sym (no-such-block .ensures) ∙ if2 .left) _ (bytes-of-record .ensures))
 
 clear-requires : tie.Need-clear-requires
 clear-requires c κs =
     let put-front = c .before .before .before .put-front in
     let bytes-of-record = c .before .before .before .before .before .bytes-of-record in
     let if2 = c .before .before .before .before .before .before .if2 in
-    let is-unheard = c .before .before .before .before .before .before .before .is-unheard in
+    let no-such-block = c .before .before .before .before .before .before .before .no-such-block in
     let if1 = c .before .before .before .before .before .before .before .before .if1 in
-    seal-room _ _ _ _ (if1 .left) _ (is-unheard .ensures) (if2 .left) _ (bytes-of-record .ensures) _ (put-front .ensures)
+    seal-room _ _ _ _ (if1 .left) _ (no-such-block .ensures) (if2 .left) _ (bytes-of-record .ensures) _ (put-front .ensures)
 
 check-of-requires : tie.Need-check-of-requires
 check-of-requires c κs = search needs
@@ -67,11 +67,11 @@ returns-3 c =
     let put-front = c .before .before .before .before .before .before .before .before .before .before .before .before .put-front in
     let bytes-of-record = c .before .before .before .before .before .before .before .before .before .before .before .before .before .before .bytes-of-record in
     let if2 = c .before .before .before .before .before .before .before .before .before .before .before .before .before .before .before .if2 in
-    let is-unheard =
+    let no-such-block =
     c .before .before .before .before .before .before .before .before .before .before .before .before .before
-    .before .before .before .is-unheard in
+    .before .before .before .no-such-block in
     let if1 = c .before .before .before .before .before .before .before .before .before .before .before .before .before .before .before .before .before .if1 in
-    seal-is _ _ _ _ (if1 .left) _ (is-unheard .ensures) (if2 .left) _ (bytes-of-record .ensures) _ (put-front .ensures) _ (clear .ensures) _
+    seal-is _ _ _ _ (if1 .left) _ (no-such-block .ensures) (if2 .left) _ (bytes-of-record .ensures) _ (put-front .ensures) _ (clear .ensures) _
     (check-of .ensures) _ (c .before .before .put-number .ensures)
 
 pub seal-spec : {M : Type 1} → statement M
@@ -79,7 +79,7 @@ seal-spec =
     tie.close
     (tie.spec
     returns
-    is-unheard-requires
+    no-such-block-requires
     returns-2
     bytes-of-record-requires
     mul-size

@@ -1,6 +1,6 @@
 -- `change::apply` meets its contract. Assumes nothing.
 use native.Mathlib.Omega.{arith}
-use Rattle.change.proofs.Applying.{root-node, apply-sound, marks-room, first-node, second-node, marks-still, apply-is}
+use Rattle.change.proofs.Applying.{root-node, apply-sound, asked-room, first-node, second-node, asked-still, apply-is}
 use borrow.Author.Needs.{needs}
 use Rattle.change.proofs.apply.Statement.{statement}
 use Rattle.change.proofs.apply.Tie as tie
@@ -21,7 +21,7 @@ flip-up-requires : tie.Need-flip-up-requires
 flip-up-requires c κs =
     let link-at = c .before .before .before .link-at in
     let pre = c .before .before .before .before .before .before .before .before .before .pre in
-    (apply-sound _ _ _ _ _ (pre), first-node _ _ _ _ _ (pre) _ (link-at .ensures), marks-room _ _ _ _ _ (pre))
+    (apply-sound _ _ _ _ _ (pre), first-node _ _ _ _ _ (pre) _ (link-at .ensures), asked-room _ _ _ _ _ (pre))
 
 slice-aggregate-flip-up-2 : tie.Need-slice-aggregate-flip-up-2
 slice-aggregate-flip-up-2 c = search needs
@@ -36,7 +36,7 @@ flip-up-requires-2 c κs =
     let pre = c .before .before .before .before .before .before .before .before .before .before .before .before .before .before .pre in (
       apply-sound _ _ _ _ _ (pre),
       omega (arith, second-node _ _ _ _ _ (pre) _ (link-at .ensures), root-node _ _ _ _ _ (pre)),
-      marks-still _ _ _ _ _
+      asked-still _ _ _ _ _
           (pre) _ (link-at .ensures) _ (flip-up .ensures),
     )
 

@@ -13,11 +13,11 @@ slice-read-other-mark c = search needs
 other-mark-requires : tie.Need-other-mark-requires
 other-mark-requires c κs = search needs
 
-mul-marks : tie.Need-mul-marks
-mul-marks c = search needs
+mul-asked : tie.Need-mul-asked
+mul-asked c = search needs
 
-slice-write-marks : tie.Need-slice-write-marks
-slice-write-marks c = search needs
+slice-write-asked : tie.Need-slice-write-asked
+slice-write-asked c = search needs
 
 same-length : tie.Need-same-length
 same-length c = search needs
@@ -32,7 +32,7 @@ flip-at-spec =
     mul-other-mark
     slice-read-other-mark
     other-mark-requires
-    mul-marks
-    slice-write-marks
+    mul-asked
+    slice-write-asked
     same-length
     returns)

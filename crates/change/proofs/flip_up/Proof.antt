@@ -8,10 +8,10 @@ use Rattle.change.proofs.flip_up.Statement.{statement}
 use Rattle.change.proofs.flip_up.Tie as tie
 
 abbrev Inv-loop : tie.InvT-loop
-Inv-loop links parents search marks₀ u c₀ marks c = Flipping (treeIn links parents search) u marks₀ c marks
+Inv-loop links parents search asked₀ u c₀ asked c = Flipping (treeIn links parents search) u asked₀ c asked
 
 abbrev μ-loop : tie.MeasureT-loop
-μ-loop links parents search marks₀ u c₀ marks c = length (route (treeIn links parents search) c)
+μ-loop links parents search asked₀ u c₀ asked c = length (route (treeIn links parents search) c)
 
 loop-holds : tie.Need-loop-holds Inv-loop μ-loop
 loop-holds c =

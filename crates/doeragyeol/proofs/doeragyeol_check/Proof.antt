@@ -4,11 +4,11 @@ use borrow.Author.Needs.{needs}
 use Rattle.doeragyeol.proofs.doeragyeol_check.Statement.{statement}
 use Rattle.doeragyeol.proofs.doeragyeol_check.Tie as tie
 
-no-room-word-requires : tie.Need-no-room-word-requires
-no-room-word-requires c κs = search needs
+short-word-requires : tie.Need-short-word-requires
+short-word-requires c κs = search needs
 
 returns : tie.Need-returns
-returns c = check-short _ _ (c .before .if1 .taken) _ (c .no-room-word .ensures)
+returns c = check-short _ _ (c .before .if1 .taken) _ (c .short-word .ensures)
 
 check-network-requires : tie.Need-check-network-requires
 check-network-requires c κs = search needs
@@ -45,7 +45,7 @@ pub doeragyeol-check-spec : {M : Type 1} → statement M
 doeragyeol-check-spec =
     tie.close
     (tie.spec
-    no-room-word-requires
+    short-word-requires
     returns
     check-network-requires
     enum-known-told

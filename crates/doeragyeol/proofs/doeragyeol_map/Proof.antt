@@ -4,11 +4,11 @@ use borrow.Author.Needs.{needs}
 use Rattle.doeragyeol.proofs.doeragyeol_map.Statement.{statement}
 use Rattle.doeragyeol.proofs.doeragyeol_map.Tie as tie
 
-no-room-word-requires : tie.Need-no-room-word-requires
-no-room-word-requires c κs = search needs
+short-word-requires : tie.Need-short-word-requires
+short-word-requires c κs = search needs
 
 returns : tie.Need-returns
-returns c = map-short _ _ _ (c .before .if1 .taken) _ (c .no-room-word .ensures)
+returns c = map-short _ _ _ (c .before .if1 .taken) _ (c .short-word .ensures)
 
 unprotected-map-requires : tie.Need-unprotected-map-requires
 unprotected-map-requires c κs = search needs
@@ -58,7 +58,7 @@ pub doeragyeol-map-spec : {M : Type 1} → statement M
 doeragyeol-map-spec =
     tie.close
     (tie.spec
-    no-room-word-requires
+    short-word-requires
     returns
     unprotected-map-requires
     enum-known-counted

@@ -4,11 +4,11 @@ use borrow.Author.Needs.{needs}
 use Rattle.doeragyeol.proofs.doeragyeol_write.Statement.{statement}
 use Rattle.doeragyeol.proofs.doeragyeol_write.Tie as tie
 
-no-room-word-requires : tie.Need-no-room-word-requires
-no-room-word-requires c κs = search needs
+short-word-requires : tie.Need-short-word-requires
+short-word-requires c κs = search needs
 
 returns : tie.Need-returns
-returns c = write-short _ _ _ (c .before .if1 .taken) _ (c .no-room-word .ensures)
+returns c = write-short _ _ _ (c .before .if1 .taken) _ (c .short-word .ensures)
 
 write-requires : tie.Need-write-requires
 write-requires c κs = search needs
@@ -51,7 +51,7 @@ pub doeragyeol-write-spec : {M : Type 1} → statement M
 doeragyeol-write-spec =
     tie.close
     (tie.spec
-    no-room-word-requires
+    short-word-requires
     returns
     write-requires
     enum-known-bytes

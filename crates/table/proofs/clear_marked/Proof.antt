@@ -10,11 +10,11 @@ use Rattle.table.proofs.clear_marked.Statement.{statement}
 use Rattle.table.proofs.clear_marked.Tie as tie
 
 abbrev Inv-loop : tie.InvT-loop
-Inv-loop parents search marks entries₀ x₀ entries x =
-    Entries (length parents) (upToNode x (startAt (search .root) marks entries₀) (standing entries₀)) entries₀ entries
+Inv-loop parents search asked entries₀ x₀ entries x =
+    Entries (length parents) (upToNode x (startAt (search .root) asked entries₀) (standing entries₀)) entries₀ entries
 
 abbrev μ-loop : tie.MeasureT-loop
-μ-loop parents search marks entries₀ x₀ entries x = length parents - x
+μ-loop parents search asked entries₀ x₀ entries x = length parents - x
 
 loop-holds : tie.Need-loop-holds Inv-loop μ-loop
 loop-holds c = clear-start _ _ _ _

@@ -11,11 +11,11 @@ use Rattle.table.proofs.climb_link.Statement.{statement}
 use Rattle.table.proofs.climb_link.Tie as tie
 
 abbrev Inv-loop : tie.InvT-loop
-Inv-loop links parents search near count bases turns asides marks entries₀ e k a₀ b₀ entries a b =
-    Between (netOf links parents search) (length parents) marks e k entries₀ a b entries
+Inv-loop links parents search near count bases turns asides asked entries₀ e k a₀ b₀ entries a b =
+    Between (netOf links parents search) (length parents) asked e k entries₀ a b entries
 
 abbrev μ-loop : tie.MeasureT-loop
-μ-loop links parents search near count bases turns asides marks entries₀ e k a₀ b₀ entries a b = left (treeIn links parents search) a b
+μ-loop links parents search near count bases turns asides asked entries₀ e k a₀ b₀ entries a b = left (treeIn links parents search) a b
 
 loop-holds : tie.Need-loop-holds Inv-loop μ-loop
 loop-holds c =
@@ -45,7 +45,7 @@ turn-at : (c : tie.Joined2 Inv-loop μ-loop) →
     let args = c .before .before .before .before .before .before .before .before .before .before .before .before .before .before .before .before .args in
     let net = netOf (args .links .now) (args .parents .now) (args .search) in
     let loop = c .before .before .before .before .before .before .loop in
-    Turn net (length (args .parents .now)) (args .marks .now) (args .e) (args .k) (args .entries .now) (c .if2 .a) (c .if2 .b) (loop .entries)
+    Turn net (length (args .parents .now)) (args .asked .now) (args .e) (args .k) (args .entries .now) (c .if2 .a) (c .if2 .b) (loop .entries)
     (left (treeIn (args .links .now) (args .parents .now) (args .search)) (loop .a) (loop .b))
 turn-at c =
     let pre = c .before .before .before .before .before .before .before .before .before .before .before .before .before .before .before .before .pre in

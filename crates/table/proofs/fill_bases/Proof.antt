@@ -3,7 +3,7 @@ use Prim.Native.Nat.{_-_}
 use mathlib.Core.Path.{_∙_}
 use lib.ListN.{length}
 use Rattle.tree.proofs.InRows.{treeIn}
-use Rattle.swap.specs.Fold.{base, turn}
+use Rattle.swap.specs.Work.{base, turn}
 use native.Mathlib.Omega.{arith}
 use Rattle.table.proofs.Stems.{stem-small, own-is, own-fits, weight-fits, base-is, turn-is}
 use Rattle.rows.proofs.Filling.{Filled, filled-start, filled-more, filled-room, filled-length, filled-end}
@@ -13,8 +13,8 @@ use Rattle.table.proofs.fill_bases.Tie as tie
 
 abbrev Inv-loop : tie.InvT-loop
 Inv-loop links parents search near count weight base₀ turn₀ x₀ base turn x =
-    Filled (λ v. Rattle.swap.specs.Fold.base (treeIn links parents search) v) (length parents) base₀ x base × Filled
-    (λ v. Rattle.swap.specs.Fold.turn (treeIn links parents search) v) (length parents) turn₀ x turn
+    Filled (λ v. Rattle.swap.specs.Work.base (treeIn links parents search) v) (length parents) base₀ x base × Filled
+    (λ v. Rattle.swap.specs.Work.turn (treeIn links parents search) v) (length parents) turn₀ x turn
 
 abbrev μ-loop : tie.MeasureT-loop
 μ-loop links parents search near count weight base₀ turn₀ x₀ base turn x = length parents - x

@@ -10,11 +10,11 @@ use Rattle.table.proofs.offer_links.Statement.{statement}
 use Rattle.table.proofs.offer_links.Tie as tie
 
 abbrev Inv-loop : tie.InvT-loop
-Inv-loop links parents search near count deep bases turns asides marks entries₀ m e₀ entries e =
-    LinkedTo (netOf links parents search) (length parents) marks e entries₀ entries × (e ≤ linksIn links)
+Inv-loop links parents search near count deep bases turns asides asked entries₀ m e₀ entries e =
+    LinkedTo (netOf links parents search) (length parents) asked e entries₀ entries × (e ≤ linksIn links)
 
 abbrev μ-loop : tie.MeasureT-loop
-μ-loop links parents search near count deep bases turns asides marks entries₀ m e₀ entries e = linksIn links - e
+μ-loop links parents search near count deep bases turns asides asked entries₀ m e₀ entries e = linksIn links - e
 
 links-in-requires : tie.Need-links-in-requires Inv-loop μ-loop
 links-in-requires c κs = search needs

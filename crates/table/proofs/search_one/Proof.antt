@@ -7,11 +7,11 @@ use borrow.Author.Needs.{needs}
 use Rattle.table.proofs.search_one.Statement.{statement}
 use Rattle.table.proofs.search_one.Tie as tie
 
-mul-marks : tie.Need-mul-marks
-mul-marks c = omega (arith, c .before .before .pre .1, small _ _ _ (c .before .before .pre .0) (λ i. omega (arith, c .before .shared-slice-known .given i)))
+mul-asked : tie.Need-mul-asked
+mul-asked c = omega (arith, c .before .before .pre .1, small _ _ _ (c .before .before .pre .0) (λ i. omega (arith, c .before .shared-slice-known .given i)))
 
-array-write-marks : tie.Need-array-write-marks
-array-write-marks c =
+array-write-asked : tie.Need-array-write-asked
+array-write-asked c =
     omega (arith, c .before .before .pre .1, small _ _ _ (c .before .before .pre .0) (λ i. omega (arith, c .before .shared-slice-known .given i)))
 
 slice-aggregate-search-marked : tie.Need-slice-aggregate-search-marked
@@ -43,8 +43,8 @@ pub search-one-spec : {M : Type 1} → statement M
 search-one-spec =
     tie.close
     (tie.spec
-    mul-marks
-    array-write-marks
+    mul-asked
+    array-write-asked
     slice-aggregate-search-marked
     slice-aggregate-search-marked-2
     search-marked-requires

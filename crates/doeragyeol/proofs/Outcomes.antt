@@ -1,0 +1,64 @@
+-- Two outcomes that a promise allows are equal: one theorem a public function, in the words of its contract. Assumes nothing.
+use Prim.Native.Nat.{ℕ}
+use mathlib.Core.List.{List}
+use Rattle.change.specs.Change.{changeVerdict, Lent, changed}
+use Rattle.doeragyeol.specs.Calls.{lentNet, lentRows, checkSaid, sizesRow, mapSaid, wordsRow, openRow, writeSaid, fileRow, lengthRow}
+use Rattle.doeragyeol.specs.Calls.{readSaid, rowsLeft, headerRow}
+use Rattle.doeragyeol.specs.Word.{version, wordOf}
+use Rattle.edition.specs.declared.Change.{Change}
+use Rattle.table.specs.Table.{tableVerdict, tableRow}
+use lib.ListN.{length}
+use Rattle.edition.proofs.Only.{One, one}
+
+-- `doeragyeol::doeragyeol_version_2`
+pub one-doeragyeol-version-2 : One (version)
+one-doeragyeol-version-2 = one _
+
+-- `doeragyeol::doeragyeol_check`
+pub one-doeragyeol-check : (links : List ℕ) (parents : List ℕ) (root : ℕ) (depth : ℕ) (sizes : List ℕ) → let g =
+    lentNet links parents root depth in One (wordOf (checkSaid g sizes)) × One (sizesRow g sizes)
+one-doeragyeol-check links parents root depth sizes = (one _, one _)
+
+-- `doeragyeol::doeragyeol_table`
+pub one-doeragyeol-table : (links : List ℕ) (parents : List ℕ) (root : ℕ) (depth : ℕ) (entries : List ℕ) → let g =
+    lentNet links parents root depth in One (wordOf (tableVerdict g entries)) × One (tableRow g entries)
+one-doeragyeol-table links parents root depth entries = (one _, one _)
+
+-- `doeragyeol::doeragyeol_map`
+pub one-doeragyeol-map :
+    (links : List ℕ) (parents : List ℕ) (root : ℕ) (depth : ℕ) (words : List ℕ) (told : List ℕ) → let g =
+    lentNet links parents root depth in let words′ =
+    words in let told′ =
+    told in One (wordOf (mapSaid g words′ told′)) × One (wordsRow g words′ told′) × One (openRow g words′ told′)
+one-doeragyeol-map links parents root depth words told = (one _, one _, one _)
+
+-- `doeragyeol::doeragyeol_change`
+pub one-doeragyeol-change :
+    (links : List ℕ) (parents : List ℕ) (root : ℕ) (depth : ℕ) (entries : List ℕ) (link : ℕ) (mark : ℕ) (length : ℕ)
+    → let lent :
+    Lent =
+    record { links = links; entries = entries } in let g =
+    lentNet links parents root depth in let change : Change =
+    record { link = link; mark = mark; length = length } in let after =
+    changed parents (record { root = root; depth = depth }) change lent in One
+    (wordOf (changeVerdict g entries change))
+    × One (after .links) × One (after .entries)
+one-doeragyeol-change links parents root depth entries link mark length = (one _, one _, one _)
+
+-- `doeragyeol::doeragyeol_write`
+pub one-doeragyeol-write :
+    (links : List ℕ) (parents : List ℕ) (root : ℕ) (depth : ℕ) (file : List ℕ) (size : List ℕ) → let g =
+    lentNet links parents root depth in let file′ =
+    file in let size′ =
+    size in One (wordOf (writeSaid g file′ size′)) × One (fileRow g file′ size′) × One (lengthRow g file′ size′)
+one-doeragyeol-write links parents root depth file size = (one _, one _, one _)
+
+-- `doeragyeol::doeragyeol_read`
+pub one-doeragyeol-read :
+    (file : List ℕ) (links : List ℕ) (parents : List ℕ) (entries : List ℕ) (header : List ℕ) → let rows =
+    lentRows links parents entries in let file′ =
+    file in let header′ =
+    header in let left =
+    rowsLeft file′ rows header′ in One (wordOf (readSaid file′ rows header′))
+    × One (left .links) × One (left .parents) × One (left .entries) × One (headerRow file′ rows header′)
+one-doeragyeol-read file links parents entries header = (one _, one _, one _, one _, one _)

@@ -1,0 +1,195 @@
+-- What one more link does to an entry: nothing where it does not cross, else what `offered` says. Assumes nothing.
+use mathlib.Core.Path.{_≡_, refl, sym, ap, _∙_}
+use mathlib.Core.Bool.{Bool, true, false, cond}
+use Prim.Native.Nat.{ℕ, suc}
+use lib.Dec.{eqb}
+use Rattle.edition.specs.declared.Found.{Found}
+use Rattle.edition.specs.declared.Found.the-variants.{Nothing, At}
+use Rattle.edition.specs.declared.Measure.{Measure}
+use Rattle.edition.specs.declared.Measure.the-variants.{Sum, Incr, Max}
+use Rattle.edition.specs.declared.Swap.{Swap}
+use Rattle.edition.specs.declared.Entry.{Entry}
+use Rattle.edition.specs.Entries.{rootState, swapState, noneState, bridgeState, blank}
+use Rattle.rows.specs.Count.{someTo}
+use Rattle.rows.specs.Work.{beats, bestTo}
+use Rattle.rows.proofs.Tests.{or-right, or-none}
+use Rattle.rows.proofs.Best.{isAt, some-found}
+use Rattle.network.specs.Network.{Net}
+use Rattle.tree.specs.Tree.{treeOf}
+use Rattle.table.specs.declared.Offer.{Offer}
+use Rattle.table.specs.declared.Costs.{Costs}
+use Rattle.swap.specs.Swap.{innerEnd, crosses, within, candidate, costOf, before, best}
+use Rattle.swap.specs.Entry.{crossed, hasCandidate, priced, swapOf, entry}
+use Rattle.swap.proofs.Choosing.{best-by}
+use Rattle.swap.proofs.Stating.{stateBelow, entry-root, entry-own}
+use Rattle.table.specs.Prefix.{firstLinks, better, asOffer, kept, offered}
+
+module _ (g : Net) (x : ℕ) where
+  -- the best of the first k links
+  bestOf : Measure → ℕ → Found
+  bestOf s k = bestTo (candidate g x) (before s g x) k
+
+  best-of : (s : Measure) (k : ℕ) → best s (firstLinks g k) x ≡ bestOf s k
+  unfolding bestOf firstLinks candidate before costOf treeOf
+  best-of s k = best-by s (firstLinks g k) x
+
+  swap-of : (s : Measure) (k : ℕ) → swapOf s (firstLinks g k) x ≡ priced s g x (bestOf s k)
+  unfolding swapOf priced costOf firstLinks treeOf
+  swap-of s k = ap (priced s (firstLinks g k) x) (best-of s k) ∙ same (bestOf s k)
+    where
+      same : (f : Found) → priced s (firstLinks g k) x f ≡ priced s g x f
+      same Nothing = refl
+      same (At e) = refl
+
+  savedOf : ℕ → Bool
+  savedOf k = someTo (candidate g x) k
+
+  saved-of : (k : ℕ) → hasCandidate (firstLinks g k) x ≡ savedOf k
+  unfolding hasCandidate savedOf firstLinks candidate treeOf
+  saved-of k = refl
+
+  crossedOf : ℕ → Bool
+  crossedOf k = someTo (λ e. crosses (treeOf g) x e (g .link e)) k
+
+  crossed-of : (k : ℕ) → crossed (firstLinks g k) x ≡ crossedOf k
+  unfolding crossed crossedOf firstLinks treeOf
+  crossed-of k = refl
+
+  -- the state of the first k links
+  stateOf : ℕ → ℕ
+  stateOf k = cond (savedOf k) swapState (cond (crossedOf k) noneState bridgeState)
+
+  state-of : (k : ℕ) → stateBelow (firstLinks g k) x ≡ stateOf k
+  unfolding stateBelow stateOf
+  state-of k = rw (saved-of k, crossed-of k)
+
+  -- the entry of the first k links
+  entryOf : ℕ → Entry
+  entryOf k = record { state = stateOf k; sum = priced Sum g x (bestOf Sum k); incr = priced Incr g x (bestOf Incr k); max = priced Max g x (bestOf Max k) }
+
+  entry-of : (k : ℕ) → eqb x (g .search .root) ≡ false → entry (firstLinks g k) x ≡ entryOf k
+  unfolding entryOf firstLinks
+  entry-of k r = rw (entry-own (firstLinks g k) x r, state-of k, swap-of Sum k, swap-of Incr k, swap-of Max k)
+
+  -- a swap link stands exactly in state 1
+  had-one : (k : ℕ) → eqb (stateOf k) swapState ≡ savedOf k
+  unfolding stateOf
+  had-one k = go (savedOf k) (crossedOf k)
+    where
+      go : (a b : Bool) → eqb (cond a swapState (cond b noneState bridgeState)) swapState ≡ a
+      go true b = refl
+      go false true = refl
+      go false false = refl
+
+  module _ (l : ℕ) where
+    -- a link that is no candidate
+    best-same : (s : Measure) → candidate g x l ≡ false → bestOf s (suc l) ≡ bestOf s l
+    unfolding bestOf bestTo
+    best-same s c = rw c
+
+    saved-same : candidate g x l ≡ false → savedOf (suc l) ≡ savedOf l
+    unfolding savedOf someTo
+    saved-same c = rw c (or-none (someTo (candidate g x) l))
+
+    crossed-more : crosses (treeOf g) x l (g .link l) ≡ true → crossedOf (suc l) ≡ true
+    unfolding crossedOf someTo
+    crossed-more c = or-right (someTo (λ e. crosses (treeOf g) x e (g .link e)) l) _ c
+
+    crossed-same : crosses (treeOf g) x l (g .link l) ≡ false → crossedOf (suc l) ≡ crossedOf l
+    unfolding crossedOf someTo
+    crossed-same c = rw c (or-none (someTo (λ e. crosses (treeOf g) x e (g .link e)) l))
+
+    not-candidate : crosses (treeOf g) x l (g .link l) ≡ false → candidate g x l ≡ false
+    unfolding candidate
+    not-candidate c = rw c
+
+    -- a link that does not cross changes nothing
+    unmoved : crosses (treeOf g) x l (g .link l) ≡ false → entryOf (suc l) ≡ entryOf l
+    unfolding entryOf stateOf
+    unmoved c =
+        let n = not-candidate c in
+        rw (best-same Sum n, best-same Incr n, best-same Max n, saved-same n, crossed-same c)
+
+    deeper-state : crosses (treeOf g) x l (g .link l) ≡ true → candidate g x l ≡ false → stateOf (suc l) ≡ cond (savedOf l) swapState noneState
+    unfolding stateOf
+    deeper-state c n = rw (saved-same n, crossed-more c)
+
+    nearer-state : candidate g x l ≡ true → stateOf (suc l) ≡ swapState
+    unfolding stateOf savedOf someTo
+    nearer-state c = rw (c, or-right (someTo (candidate g x) l) true refl)
+
+    -- a link that crosses too deep
+    deeper : crosses (treeOf g) x l (g .link l) ≡ true → candidate g x l ≡ false → (c : Costs) → entryOf (suc l) ≡ offered (entryOf l) false l c
+    unfolding offered entryOf
+    deeper c n k = rw (best-same Sum n, best-same Incr n, best-same Max n, had-one l, deeper-state c n)
+
+    -- a candidate
+    swap-kept :
+        (s : Measure)
+        → candidate g x l ≡ true → (o : Offer) → o .link ≡ l → o .cost ≡ costOf s g x l
+        → priced s g x (bestOf s (suc l)) ≡ kept (savedOf l) (priced s g x (bestOf s l)) o
+    unfolding bestOf bestTo savedOf beats priced kept before better
+    swap-kept s c o p q =
+        rw (c, some-found (candidate g x) (before s g x) l) (one (bestTo (candidate g x) (before s g x) l))
+      where
+        new : Swap
+        new = record { link = o .link; cost = o .cost }
+
+        mine : Swap
+        mine = record { link = l; cost = costOf s g x l }
+
+        is-new : mine ≡ new
+        is-new = λ i. record { link = sym p i; cost = sym q i }
+
+        same-test : (b : ℕ) → better o (asOffer (record { link = b; cost = costOf s g x b })) ≡ before s g x l b
+        same-test b = rw (p, q)
+
+        two : (b : ℕ) (t : Bool) → before s g x l b ≡ t → priced s g x (cond (before s g x l b) (At l) (At b)) ≡ kept true (priced s g x (At b)) o
+        two b true e = rw (e, same-test b ∙ e) is-new
+        two b false e = rw (e, same-test b ∙ e)
+
+        one : (f : Found) → priced s g x (cond (beats (before s g x) l f) (At l) f) ≡ kept (isAt f) (priced s g x f) o
+        one Nothing = is-new
+        one (At b) = two b (before s g x l b) refl
+
+    nearer :
+        candidate g x l ≡ true
+        → (c : Costs) → c .sum ≡ costOf Sum g x l → c .incr ≡ costOf Incr g x l → c .max ≡ costOf Max g x l
+        → entryOf (suc l) ≡ offered (entryOf l) true l c
+    unfolding offered entryOf
+    nearer n c p q r =
+        rw (
+          had-one l,
+          nearer-state n,
+          swap-kept Sum n (record { link = l; cost = c .sum; incr = c .incr }) refl p,
+          swap-kept Incr n (record { link = l; cost = c .incr; incr = c .incr }) refl q,
+          swap-kept Max n (record { link = l; cost = c .max; incr = c .incr }) refl r,
+        )
+
+  -- the entry of one more link, of a node that is not the root
+  module _ (r : eqb x (g .search .root) ≡ false) (l : ℕ) where
+    pub entry-unmoved : crosses (treeOf g) x l (g .link l) ≡ false → entry (firstLinks g (suc l)) x ≡ entry (firstLinks g l) x
+    entry-unmoved c = entry-of (suc l) r ∙ unmoved l c ∙ sym (entry-of l r)
+
+    pub entry-offered :
+        crosses (treeOf g) x l (g .link l) ≡ true
+        → (near : Bool) → near ≡ within (treeOf g) (g .search .depth) x (innerEnd (treeOf g) x (g .link l)) → (c : Costs)
+        → c .sum ≡ costOf Sum g x l → c .incr ≡ costOf Incr g x l → c .max ≡ costOf Max g x l
+        → entry (firstLinks g (suc l)) x ≡ offered (entry (firstLinks g l) x) near l c
+    unfolding candidate
+    entry-offered c true q k p i m = rw (entry-of (suc l) r, entry-of l r) (nearer l (rw (c, ← q)) k p i m)
+    entry-offered c false q k p i m = rw (entry-of (suc l) r, entry-of l r) (deeper l c (rw (c, ← q)) k)
+
+  -- the root's entry stays
+  pub entry-top : eqb x (g .search .root) ≡ true → (k : ℕ) → entry (firstLinks g k) x ≡ blank rootState
+  unfolding firstLinks
+  entry-top r k = entry-root (firstLinks g k) x r
+
+-- with no link yet, and with all
+pub entry-none : (g : Net) (x : ℕ) → eqb x (g .search .root) ≡ false → entry (firstLinks g 0) x ≡ blank bridgeState
+unfolding entryOf stateOf savedOf crossedOf bestOf someTo bestTo priced
+entry-none g x r = entry-of g x 0 r
+
+pub entry-all : (g : Net) (x : ℕ) → entry (firstLinks g (g .links)) x ≡ entry g x
+unfolding firstLinks
+entry-all g x = refl
