@@ -8,22 +8,34 @@ use Rattle.network.specs.Network.{netOf}
 use Rattle.edition.proofs.Only.{One, one}
 
 -- `archive::check_write`
-pub one-check-write : (links : List ℕ) (parents : List ℕ) (search : Search) (file : List ℕ) → let g = netOf links parents search in One (writeVerdict g file)
+pub one-check-write :
+    (links parents : List ℕ) (search : Search) (file : List ℕ) →
+    let g = netOf links parents search in
+    One (writeVerdict g file)
 one-check-write links parents search file = one _
 
 -- `archive::write`
-pub one-write : (links : List ℕ) (parents : List ℕ) (search : Search) (file : List ℕ) → let g =
-    netOf links parents search in One (writeAnswer g file) × One (writtenRow g file)
+pub one-write :
+    (links parents : List ℕ) (search : Search) (file : List ℕ) →
+    let g = netOf links parents search in
+    One (writeAnswer g file)
+    × One (writtenRow g file)
 one-write links parents search file = (one _, one _)
 
 -- `archive::check_read`
-pub one-check-read : (file : List ℕ) (links : List ℕ) (parents : List ℕ) (entries : List ℕ) → let rows : Rows =
-    record { links = links; parents = parents; entries = entries } in One (readVerdict file rows)
+pub one-check-read :
+    (file links parents entries : List ℕ) →
+    let rows : Rows = record { links = links; parents = parents; entries = entries } in
+    One (readVerdict file rows)
 one-check-read file links parents entries = one _
 
 -- `archive::read`
-pub one-read : (file : List ℕ) (links : List ℕ) (parents : List ℕ) (entries : List ℕ) → let rows : Rows =
-    record { links = links; parents = parents; entries = entries } in let after =
-    rowsRead file rows in One (readAnswer file rows)
-    × One (after .links) × One (after .parents) × One (after .entries)
+pub one-read :
+    (file links parents entries : List ℕ) →
+    let rows : Rows = record { links = links; parents = parents; entries = entries } in
+    let after = rowsRead file rows in
+    One (readAnswer file rows)
+    × One (after .links)
+    × One (after .parents)
+    × One (after .entries)
 one-read file links parents entries = (one _, one _, one _, one _)

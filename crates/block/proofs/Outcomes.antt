@@ -6,13 +6,13 @@ use Rattle.block.specs.Block.{payload as payloadOf, sealed}
 use Rattle.edition.proofs.Only.{One, one}
 
 -- `block::check_block`
-pub one-check-block : (kind : ℕ) (number : ℕ) (used : ℕ) (b : List ℕ) → One (blockVerdict kind number used b)
+pub one-check-block : (kind number used : ℕ) (b : List ℕ) → One (blockVerdict kind number used b)
 one-check-block kind number used b = one _
 
 -- `block::payload`
-pub one-payload : (kind : ℕ) (number : ℕ) (used : ℕ) (b : List ℕ) → One (payloadOf kind number used b)
+pub one-payload : (kind number used : ℕ) (b : List ℕ) → One (payloadOf kind number used b)
 one-payload kind number used b = one _
 
 -- `block::seal`
-pub one-seal : (kind : ℕ) (number : ℕ) (used : ℕ) (b : List ℕ) → One (sealed kind number used b)
+pub one-seal : (kind number used : ℕ) (b : List ℕ) → One (sealed kind number used b)
 one-seal kind number used b = one _

@@ -31,7 +31,8 @@ use Rattle.archive.proofs.AcceptedRows.{unlent-refused}
 use Rattle.doeragyeol.specs.Word.{wordOf, answered, told}
 use Rattle.doeragyeol.specs.Calls.{lentRows, checkSaid, sizesRow, mapSaid, wordsRow, openRow, writeSaid, fileRow, lengthRow, readSaid, rowsLeft}
 use Rattle.doeragyeol.specs.Calls.{headerRow}
-use Rattle.doeragyeol.proofs.Telling.{room-lacks, room-there, rooms-one, ends-refused, sound-is, sound-not, map-is, map-not, write-is, write-not, read-is, read-not}
+use Rattle.doeragyeol.proofs.Telling.{room-lacks, room-there, rooms-one, ends-refused, sound-is, sound-not}
+use Rattle.doeragyeol.proofs.Telling.{map-is, map-not, write-is, write-not, read-is, read-not}
 
 -- the word and the row of values, by the verdict
 module _ (v : Verdict) where

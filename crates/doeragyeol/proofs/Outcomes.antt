@@ -15,50 +15,65 @@ pub one-doeragyeol-version-2 : One (version)
 one-doeragyeol-version-2 = one _
 
 -- `doeragyeol::doeragyeol_check`
-pub one-doeragyeol-check : (links : List ℕ) (parents : List ℕ) (root : ℕ) (depth : ℕ) (sizes : List ℕ) → let g =
-    lentNet links parents root depth in One (wordOf (checkSaid g sizes)) × One (sizesRow g sizes)
+pub one-doeragyeol-check :
+    (links parents : List ℕ) (root depth : ℕ) (sizes : List ℕ) →
+    let g = lentNet links parents root depth in
+    One (wordOf (checkSaid g sizes))
+    × One (sizesRow g sizes)
 one-doeragyeol-check links parents root depth sizes = (one _, one _)
 
 -- `doeragyeol::doeragyeol_table`
-pub one-doeragyeol-table : (links : List ℕ) (parents : List ℕ) (root : ℕ) (depth : ℕ) (entries : List ℕ) → let g =
-    lentNet links parents root depth in One (wordOf (tableVerdict g entries)) × One (tableRow g entries)
+pub one-doeragyeol-table :
+    (links parents : List ℕ) (root depth : ℕ) (entries : List ℕ) →
+    let g = lentNet links parents root depth in
+    One (wordOf (tableVerdict g entries))
+    × One (tableRow g entries)
 one-doeragyeol-table links parents root depth entries = (one _, one _)
 
 -- `doeragyeol::doeragyeol_map`
 pub one-doeragyeol-map :
-    (links : List ℕ) (parents : List ℕ) (root : ℕ) (depth : ℕ) (words : List ℕ) (told : List ℕ) → let g =
-    lentNet links parents root depth in let words′ =
-    words in let told′ =
-    told in One (wordOf (mapSaid g words′ told′)) × One (wordsRow g words′ told′) × One (openRow g words′ told′)
+    (links parents : List ℕ) (root depth : ℕ) (words told : List ℕ) →
+    let g = lentNet links parents root depth in
+    let words′ = words in
+    let told′ = told in
+    One (wordOf (mapSaid g words′ told′))
+    × One (wordsRow g words′ told′)
+    × One (openRow g words′ told′)
 one-doeragyeol-map links parents root depth words told = (one _, one _, one _)
 
 -- `doeragyeol::doeragyeol_change`
 pub one-doeragyeol-change :
-    (links : List ℕ) (parents : List ℕ) (root : ℕ) (depth : ℕ) (entries : List ℕ) (link : ℕ) (mark : ℕ) (length : ℕ)
-    → let lent :
-    Lent =
-    record { links = links; entries = entries } in let g =
-    lentNet links parents root depth in let change : Change =
-    record { link = link; mark = mark; length = length } in let after =
-    changed parents (record { root = root; depth = depth }) change lent in One
-    (wordOf (changeVerdict g entries change))
-    × One (after .links) × One (after .entries)
+    (links parents : List ℕ) (root depth : ℕ) (entries : List ℕ) (link mark length : ℕ) →
+    let lent : Lent = record { links = links; entries = entries } in
+    let g = lentNet links parents root depth in
+    let change : Change = record { link = link; mark = mark; length = length } in
+    let after = changed parents (record { root = root; depth = depth }) change lent in
+    One (wordOf (changeVerdict g entries change))
+    × One (after .links)
+    × One (after .entries)
 one-doeragyeol-change links parents root depth entries link mark length = (one _, one _, one _)
 
 -- `doeragyeol::doeragyeol_write`
 pub one-doeragyeol-write :
-    (links : List ℕ) (parents : List ℕ) (root : ℕ) (depth : ℕ) (file : List ℕ) (size : List ℕ) → let g =
-    lentNet links parents root depth in let file′ =
-    file in let size′ =
-    size in One (wordOf (writeSaid g file′ size′)) × One (fileRow g file′ size′) × One (lengthRow g file′ size′)
+    (links parents : List ℕ) (root depth : ℕ) (file size : List ℕ) →
+    let g = lentNet links parents root depth in
+    let file′ = file in
+    let size′ = size in
+    One (wordOf (writeSaid g file′ size′))
+    × One (fileRow g file′ size′)
+    × One (lengthRow g file′ size′)
 one-doeragyeol-write links parents root depth file size = (one _, one _, one _)
 
 -- `doeragyeol::doeragyeol_read`
 pub one-doeragyeol-read :
-    (file : List ℕ) (links : List ℕ) (parents : List ℕ) (entries : List ℕ) (header : List ℕ) → let rows =
-    lentRows links parents entries in let file′ =
-    file in let header′ =
-    header in let left =
-    rowsLeft file′ rows header′ in One (wordOf (readSaid file′ rows header′))
-    × One (left .links) × One (left .parents) × One (left .entries) × One (headerRow file′ rows header′)
+    (file links parents entries header : List ℕ) →
+    let rows = lentRows links parents entries in
+    let file′ = file in
+    let header′ = header in
+    let left = rowsLeft file′ rows header′ in
+    One (wordOf (readSaid file′ rows header′))
+    × One (left .links)
+    × One (left .parents)
+    × One (left .entries)
+    × One (headerRow file′ rows header′)
 one-doeragyeol-read file links parents entries header = (one _, one _, one _, one _, one _)

@@ -7,6 +7,9 @@ use Rattle.network.specs.Network.{netOf}
 use Rattle.edition.proofs.Only.{One, one}
 
 -- `map::unprotected_map`
-pub one-unprotected-map : (links : List ℕ) (parents : List ℕ) (search : Search) (words : List ℕ) → let g =
-    netOf links parents search in One (mapAnswer g words) × One (mapRow g words)
+pub one-unprotected-map :
+    (links parents : List ℕ) (search : Search) (words : List ℕ) →
+    let g = netOf links parents search in
+    One (mapAnswer g words)
+    × One (mapRow g words)
 one-unprotected-map links parents search words = (one _, one _)

@@ -42,7 +42,10 @@ pub one-parent-of : (parents : List ℕ) (u : ℕ) → One (getD parents u noLin
 one-parent-of parents u = one _
 
 -- `network::is_parent`
-pub one-is-parent : (parents : List ℕ) (e : ℕ) → let row = parents in One (isParent (λ u. getD row u noLink) (length row) e)
+pub one-is-parent :
+    (parents : List ℕ) (e : ℕ) →
+    let row = parents in
+    One (isParent (λ u. getD row u noLink) (length row) e)
 one-is-parent parents e = one _
 
 -- `network::in_service`
@@ -66,7 +69,7 @@ pub one-check-links : (most : Limits) (m : ℕ) → One (refuseIf (badLinks most
 one-check-links most m = one _
 
 -- `network::check_root`
-pub one-check-root : (n : ℕ) (root : ℕ) → One (refuseIf (badRoot n root) BadRoot 0)
+pub one-check-root : (n root : ℕ) → One (refuseIf (badRoot n root) BadRoot 0)
 one-check-root n root = one _
 
 -- `network::check_depth`
@@ -74,7 +77,7 @@ pub one-check-depth : (most : Limits) (depth : ℕ) → One (refuseIf (badDepth 
 one-check-depth most depth = one _
 
 -- `network::check_sizes`
-pub one-check-sizes : (most : Limits) (n : ℕ) (m : ℕ) (search : Search) → One (sizeVerdict most n m search)
+pub one-check-sizes : (most : Limits) (n m : ℕ) (search : Search) → One (sizeVerdict most n m search)
 one-check-sizes most n m search = one _
 
 -- `network::bad_mark`
@@ -82,14 +85,22 @@ pub one-bad-mark : (mark : ℕ) → One (badMark mark)
 one-bad-mark mark = one _
 
 -- `network::check_ends`
-pub one-check-ends : (links : List ℕ) (n : ℕ) → let row = links in One (refuseAt (λ e. badEnds n (linkIn row e)) (linksIn row) BadEnds)
+pub one-check-ends :
+    (links : List ℕ) (n : ℕ) →
+    let row = links in
+    One (refuseAt (λ e. badEnds n (linkIn row e)) (linksIn row) BadEnds)
 one-check-ends links n = one _
 
 -- `network::check_marks`
-pub one-check-marks : (links : List ℕ) → let row = links in One (refuseAt (λ e. badMark (linkIn row e .mark)) (linksIn row) BadMark)
+pub one-check-marks :
+    (links : List ℕ) →
+    let row = links in
+    One (refuseAt (λ e. badMark (linkIn row e .mark)) (linksIn row) BadMark)
 one-check-marks links = one _
 
 -- `network::check_parents`
-pub one-check-parents : (links : List ℕ) (parents : List ℕ) (search : Search) → let g =
-    netOf links parents search in One (refuseAt (badParent g) (length parents) BadParent)
+pub one-check-parents :
+    (links parents : List ℕ) (search : Search) →
+    let g = netOf links parents search in
+    One (refuseAt (badParent g) (length parents) BadParent)
 one-check-parents links parents search = one _

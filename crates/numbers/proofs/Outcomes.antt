@@ -10,5 +10,5 @@ pub one-two-at : (bytes : List ℕ) (at : ℕ) → One (numberIn bytes at 2)
 one-two-at bytes at = one _
 
 -- `numbers::put_number`
-pub one-put-number : (bytes : List ℕ) (at : ℕ) (k : ℕ) (v : ℕ) → One (sets bytes at (bytesOf k v))
+pub one-put-number : (bytes : List ℕ) (at k v : ℕ) → One (sets bytes at (bytesOf k v))
 one-put-number bytes at k v = one _

@@ -9,7 +9,9 @@ use Rattle.record.specs.Record.{headerRecord, linkRecord, entryRecord, r
 use Rattle.edition.proofs.Only.{One, one}
 
 -- `record::put_header`
-pub one-put-header : (bytes : List ℕ) (at : ℕ) (n : ℕ) (m : ℕ) (search : Search) → One (recordPut at headerBytes (headerRecord n m search) bytes)
+pub one-put-header :
+    (bytes : List ℕ) (at n m : ℕ) (search : Search) →
+    One (recordPut at headerBytes (headerRecord n m search) bytes)
 one-put-header bytes at n m search = one _
 
 -- `record::put_link`
@@ -17,5 +19,7 @@ pub one-put-link : (bytes : List ℕ) (at : ℕ) (l : Link) → One (recordPut a
 one-put-link bytes at l = one _
 
 -- `record::put_entry`
-pub one-put-entry : (bytes : List ℕ) (at : ℕ) (parent : ℕ) (entry : Entry) → One (recordPut at entryBytes (entryRecord parent entry) bytes)
+pub one-put-entry :
+    (bytes : List ℕ) (at parent : ℕ) (entry : Entry) →
+    One (recordPut at entryBytes (entryRecord parent entry) bytes)
 one-put-entry bytes at parent entry = one _

@@ -9,7 +9,7 @@ use mathlib.Core.Bool.{Bool}
 use Rattle.edition.proofs.Only.{One, one}
 
 -- `rows::at`
-pub one-at : (row : List ℕ) (i : ℕ) (other : ℕ) → One (getD row i other)
+pub one-at : (row : List ℕ) (i other : ℕ) → One (getD row i other)
 one-at row i other = one _
 
 -- `rows::wide_at`

@@ -11,16 +11,21 @@ use lib.ListN.{length}
 use Rattle.edition.proofs.Only.{One, one}
 
 -- `sound::check_routes`
-pub one-check-routes : (links : List ℕ) (parents : List ℕ) (search : Search) → let g =
-    netOf links parents search in One (refuseAt (noRoute g) (length parents) NoRoute)
+pub one-check-routes :
+    (links parents : List ℕ) (search : Search) →
+    let g = netOf links parents search in
+    One (refuseAt (noRoute g) (length parents) NoRoute)
 one-check-routes links parents search = one _
 
 -- `sound::keeps_short`
-pub one-keeps-short : (p : ℕ) (q : ℕ) (w : ℕ) → One (keepsShort p q w)
+pub one-keeps-short : (p q w : ℕ) → One (keepsShort p q w)
 one-keeps-short p q w = one _
 
 -- `sound::check_network`
-pub one-check-network : (links : List ℕ) (parents : List ℕ) (search : Search) → let g = netOf links parents search in One (checked g)
+pub one-check-network :
+    (links parents : List ℕ) (search : Search) →
+    let g = netOf links parents search in
+    One (checked g)
 one-check-network links parents search = one _
 
 -- `sound::handed_up`

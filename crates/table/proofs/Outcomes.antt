@@ -7,24 +7,38 @@ use Rattle.table.specs.Table.{tableVerdict, freshRow, tableRow, entryVer
 use Rattle.edition.proofs.Only.{One, one}
 
 -- `table::check_table`
-pub one-check-table : (links : List ℕ) (parents : List ℕ) (search : Search) (entries : List ℕ) → let g =
-    netOf links parents search in One (tableVerdict g entries)
+pub one-check-table :
+    (links parents : List ℕ) (search : Search) (entries : List ℕ) →
+    let g = netOf links parents search in
+    One (tableVerdict g entries)
 one-check-table links parents search entries = one _
 
 -- `table::refresh`
-pub one-refresh : (links : List ℕ) (parents : List ℕ) (search : Search) (asked : List ℕ) (entries : List ℕ) → let g =
-    netOf links parents search in One (tableVerdict g entries) × One (freshRow g asked entries)
+pub one-refresh :
+    (links parents : List ℕ) (search : Search) (asked entries : List ℕ) →
+    let g = netOf links parents search in
+    One (tableVerdict g entries)
+    × One (freshRow g asked entries)
 one-refresh links parents search asked entries = (one _, one _)
 
 -- `table::table`
-pub one-table : (links : List ℕ) (parents : List ℕ) (search : Search) (entries : List ℕ) → let g =
-    netOf links parents search in One (tableVerdict g entries) × One (tableRow g entries)
+pub one-table :
+    (links parents : List ℕ) (search : Search) (entries : List ℕ) →
+    let g = netOf links parents search in
+    One (tableVerdict g entries)
+    × One (tableRow g entries)
 one-table links parents search entries = (one _, one _)
 
 -- `table::check_entry`
-pub one-check-entry : (links : List ℕ) (parents : List ℕ) (search : Search) (x : ℕ) → let g = netOf links parents search in One (entryVerdict g x)
+pub one-check-entry :
+    (links parents : List ℕ) (search : Search) (x : ℕ) →
+    let g = netOf links parents search in
+    One (entryVerdict g x)
 one-check-entry links parents search x = one _
 
 -- `table::entry_of`
-pub one-entry-of : (links : List ℕ) (parents : List ℕ) (search : Search) (x : ℕ) → let g = netOf links parents search in One (entryAnswer g x)
+pub one-entry-of :
+    (links parents : List ℕ) (search : Search) (x : ℕ) →
+    let g = netOf links parents search in
+    One (entryAnswer g x)
 one-entry-of links parents search x = one _

@@ -10,11 +10,17 @@ use Rattle.tree.specs.declared.Climb.{Climb}
 use Rattle.edition.proofs.Only.{One, one}
 
 -- `tree::up`
-pub one-up : (links : List ℕ) (parents : List ℕ) (search : Search) (u : ℕ) → let g = netOf links parents search in One (treeOf g .up u)
+pub one-up :
+    (links parents : List ℕ) (search : Search) (u : ℕ) →
+    let g = netOf links parents search in
+    One (treeOf g .up u)
 one-up links parents search u = one _
 
 -- `tree::rise`
-pub one-rise : (links : List ℕ) (parents : List ℕ) (search : Search) (u : ℕ) → let g = netOf links parents search in One (treeOf g .rise u)
+pub one-rise :
+    (links parents : List ℕ) (search : Search) (u : ℕ) →
+    let g = netOf links parents search in
+    One (treeOf g .rise u)
 one-rise links parents search u = one _
 
 -- `tree::Climb::begin`
@@ -22,31 +28,52 @@ pub one-climb-begin : (u : ℕ) → One (begun u)
 one-climb-begin u = one _
 
 -- `tree::Climb::step`
-pub one-climb-step : (self : Climb) (links : List ℕ) (parents : List ℕ) (search : Search) → let g = netOf links parents search in One (stepped (treeOf g) self)
+pub one-climb-step :
+    (self : Climb) (links parents : List ℕ) (search : Search) →
+    let g = netOf links parents search in
+    One (stepped (treeOf g) self)
 one-climb-step self links parents search = one _
 
 -- `tree::has_route`
-pub one-has-route : (links : List ℕ) (parents : List ℕ) (search : Search) (u : ℕ) → let g = netOf links parents search in One (hasRoute (treeOf g) u)
+pub one-has-route :
+    (links parents : List ℕ) (search : Search) (u : ℕ) →
+    let g = netOf links parents search in
+    One (hasRoute (treeOf g) u)
 one-has-route links parents search u = one _
 
 -- `tree::distances`
-pub one-distances : (links : List ℕ) (parents : List ℕ) (search : Search) (row : List ℕ) → let g =
-    netOf links parents search in One (rowVerdict g row) × One (distanceRow g row)
+pub one-distances :
+    (links parents : List ℕ) (search : Search) (row : List ℕ) →
+    let g = netOf links parents search in
+    One (rowVerdict g row)
+    × One (distanceRow g row)
 one-distances links parents search row = (one _, one _)
 
 -- `tree::check_way`
-pub one-check-way : (links : List ℕ) (parents : List ℕ) (search : Search) (u : ℕ) → let g = netOf links parents search in One (wayVerdict g u)
+pub one-check-way :
+    (links parents : List ℕ) (search : Search) (u : ℕ) →
+    let g = netOf links parents search in
+    One (wayVerdict g u)
 one-check-way links parents search u = one _
 
 -- `tree::route`
-pub one-route : (links : List ℕ) (parents : List ℕ) (search : Search) (u : ℕ) (row : List ℕ) → let g =
-    netOf links parents search in One (routeAnswer g u row) × One (routeRow g u row)
+pub one-route :
+    (links parents : List ℕ) (search : Search) (u : ℕ) (row : List ℕ) →
+    let g = netOf links parents search in
+    One (routeAnswer g u row)
+    × One (routeRow g u row)
 one-route links parents search u row = (one _, one _)
 
 -- `tree::meet_of`
-pub one-meet-of : (links : List ℕ) (parents : List ℕ) (search : Search) (u : ℕ) (z : ℕ) → let g = netOf links parents search in One (meetAnswer g u z)
+pub one-meet-of :
+    (links parents : List ℕ) (search : Search) (u z : ℕ) →
+    let g = netOf links parents search in
+    One (meetAnswer g u z)
 one-meet-of links parents search u z = one _
 
 -- `tree::tree_distance`
-pub one-tree-distance : (links : List ℕ) (parents : List ℕ) (search : Search) (u : ℕ) (z : ℕ) → let g = netOf links parents search in One (apartAnswer g u z)
+pub one-tree-distance :
+    (links parents : List ℕ) (search : Search) (u z : ℕ) →
+    let g = netOf links parents search in
+    One (apartAnswer g u z)
 one-tree-distance links parents search u z = one _
