@@ -4,8 +4,8 @@ use mathlib.Core.Bool.{true}
 use mathlib.Core.List.{List, [], _∷_}
 use Rattle.rows.proofs.Tests.{and-left, and-right}
 use Rattle.rows.proofs.Listed.{same-equal}
-use Rattle.harbour.specs.Harbour.{Case, _gives_, links, parents, at, harbour, alone, rootEntry, bridge, one, two, three, right, wrong, nine}
-use Rattle.harbour.specs.Harbour.{linksSeven, linksNine, twoSeven, oneNine, twoNine, room, after, answer, cases, holds}
+use Rattle.harbour.specs.Harbour.{Case, _gives_, links, parents, harbour, alone, rootEntry, bridge, one, two, three, right, nine}
+use Rattle.harbour.specs.Harbour.{linksSeven, linksNine, twoSeven, oneNine, twoNine, room, answer, cases, holds}
 use Rattle.edition.specs.Refusals.{numberOf, said}
 use Rattle.rows.specs.Count.{sumTo, maxTo, someTo, rowsTo, onlyIf, rowWith}
 use Rattle.rows.specs.First.{orHere, firstTo, foundOr, refusedAt, refuseAt, refuseIf, firstly}
@@ -30,8 +30,8 @@ unfolding numberOf entryRow sumTo maxTo someTo rowsTo onlyIf rowWith orHere firs
     notShort recordVerdict netVerdict checked innerEnd outerEnd crosses within candidate newDist inside cost costOf before
     best crossed hasCandidate state priced swapOf entry table tableVerdict tableRow isAsked freshAt
     freshRow unprotected word mapOf countUnprotected lowest mapVerdict mapRow isParent breaks changeVerdict setLink mendedAt mended
-    changed links parents at harbour alone rootEntry bridge one two three right wrong nine linksSeven linksNine twoSeven
-    oneNine twoNine said room after answer cases holds
+    changed links parents harbour alone rootEntry bridge one two three right nine linksSeven linksNine twoSeven
+    oneNine twoNine said room answer cases holds
 harbour-cases = refl
 
 -- each case as an equation, to be cited by what the promises say

@@ -4,7 +4,6 @@ use mathlib.Core.List.{List, [], _∷_, _++_}
 use Prim.Native.Nat.{ℕ}
 use lib.ListN.{replicate}
 use Rattle.entries.specs.Row.{entryRow}
-use Rattle.edition.specs.declared.Search.{Search}
 use Rattle.edition.specs.declared.Change.{Change}
 use Rattle.edition.specs.Limits.{noLink, noNode, wholeSearch, mapWords}
 use Rattle.edition.specs.Refusals.{said}
@@ -14,7 +13,7 @@ use Rattle.network.specs.Network.{Net, netOf}
 use Rattle.swap.specs.Entry.{entry}
 use Rattle.table.specs.Table.{tableVerdict, tableRow}
 use Rattle.map.specs.Map.{mapVerdict, mapRow, countUnprotected, lowest}
-use Rattle.change.specs.Change.{changeVerdict, changed, Lent}
+use Rattle.change.specs.Change.{changeVerdict, changed}
 
 -- Links 0 to 6: two ends, length, service mark.
 unfoldable pub links : List ℕ
@@ -31,17 +30,13 @@ links =
 unfoldable pub parents : List ℕ
 parents = noLink ∷ 0 ∷ 1 ∷ 2 ∷ 6 ∷ []
 
--- Root 0, at a depth.
-unfoldable pub at : ℕ → Search
-at depth = record { root = 0; depth = depth }
-
 -- The Harbour network at a depth.
 unfoldable pub harbour : ℕ → Net
-harbour depth = netOf links parents (at depth)
+harbour depth = netOf links parents (record { root = 0; depth = depth })
 
 -- One node and no link.
 unfoldable pub alone : Net
-alone = netOf [] (noLink ∷ []) (at wholeSearch)
+alone = netOf [] (noLink ∷ []) (harbour wholeSearch .search)
 
 -- The root's entry.
 unfoldable pub rootEntry : List ℕ
@@ -70,10 +65,6 @@ right = rootEntry ++ one ++ two ++ three ++ bridge
 -- An entry whose every number is wrong.
 unfoldable pub nine : List ℕ
 nine = 9 ∷ 9 ∷ 9 ∷ 9 ∷ 9 ∷ 9 ∷ 9 ∷ []
-
--- A table of wrong entries.
-unfoldable pub wrong : List ℕ
-wrong = nine ++ nine ++ nine ++ nine ++ nine
 
 -- The row of links after P7: link 5 has length 2.
 unfoldable pub linksSeven : List ℕ
@@ -124,10 +115,6 @@ pub data Ask : Type 0 where
 unfoldable pub room : Net → List ℕ
 room g = rowsTo (λ x. nine) (g .nodes)
 
--- Both rows that a change leaves, one after the other.
-unfoldable pub after : Lent → List ℕ
-after lent = lent .links ++ lent .entries
-
 -- What the definitions answer.
 unfoldable pub answer : Ask → List ℕ
 answer (entryAt depth x) = entryRow (entry (harbour depth) x)
@@ -135,8 +122,8 @@ answer (tableOf g) = said (tableVerdict g (room g)) ++ tableRow g (room g)
 answer (mapOf g) = said (mapVerdict g (replicate mapWords 9)) ++ mapRow g (replicate mapWords 9) ++ (countUnprotected g ∷ lowest g ∷ [])
 answer (change e s w entries) =
     let c : Change = record { link = e; mark = s; length = w } in
-    said (changeVerdict (harbour wholeSearch) entries c) ++
-    after (changed parents (at wholeSearch) c (record { links = links; entries = entries }))
+    let after = changed parents (harbour wholeSearch .search) c (record { links = links; entries = entries }) in
+    said (changeVerdict (harbour wholeSearch) entries c) ++ after .links ++ after .entries
 
 -- A question and the numbers that document 01 gives.
 pub data Case : Type 0 where
@@ -160,12 +147,12 @@ cases =
     (tableOf (harbour 1) gives (0 ∷ 0 ∷ right)) ∷
     -- P7
     (change 5 1 2 right gives (0 ∷ 0 ∷ linksSeven ++ rootEntry ++ one ++ twoSeven ++ three ++ bridge)) ∷
-    (change 5 1 2 wrong gives (0 ∷ 0 ∷ linksSeven ++ nine ++ nine ++ twoSeven ++ three ++ nine)) ∷
+    (change 5 1 2 (room (harbour wholeSearch)) gives (0 ∷ 0 ∷ linksSeven ++ nine ++ nine ++ twoSeven ++ three ++ nine)) ∷
     -- P8
     (change 5 1 1 right gives (13 ∷ 5 ∷ links ++ right)) ∷
     -- P9
     (change 3 0 6 right gives (0 ∷ 0 ∷ linksNine ++ rootEntry ++ oneNine ++ twoNine ++ three ++ bridge)) ∷
-    (change 3 0 6 wrong gives (0 ∷ 0 ∷ linksNine ++ nine ++ oneNine ++ twoNine ++ nine ++ nine)) ∷
+    (change 3 0 6 (room (harbour wholeSearch)) gives (0 ∷ 0 ∷ linksNine ++ nine ++ oneNine ++ twoNine ++ nine ++ nine)) ∷
     -- P10
     (change 0 1 2 right gives (12 ∷ 0 ∷ links ++ right)) ∷
     -- P11

@@ -41,6 +41,5 @@ swapOf s g x = priced s g x (best s g x)
 -- The entry of x: its state, and in state 1 the best candidates and their costs. Only state 1 has links and costs.
 unfoldable pub entry : Net → ℕ → Entry
 entry g x =
-    let own : Entry =
-    record { state = swapState; sum = swapOf Sum g x; incr = swapOf Incr g x; max = swapOf Max g x } in
+    let own : Entry = record { state = swapState; sum = swapOf Sum g x; incr = swapOf Incr g x; max = swapOf Max g x } in
     cond (eqb (state g x) swapState) own (blank (state g x))
