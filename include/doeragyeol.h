@@ -15,8 +15,8 @@
  *
  * Each function answers one word: 0, or the first refusal in the order that it names, whose number and place the two
  * functions below take out. A row that is lent for values (sizes, told, size, header) and is too short for them is refused
- * by 10 before everything else. On a refusal nothing lent is changed. Otherwise a row gets what is said at its beginning,
- * and the rest of it stays.
+ * by 10, in 10's place in the order: behind 1 to 9, and before 24. On a refusal nothing lent is changed. Otherwise a row
+ * gets what is said at its beginning, and the rest of it stays.
  *
  * The rows:
  *
@@ -40,15 +40,15 @@ extern "C" {
 
 /*
  * The version of this interface, which a change of it raises. The library has a function of its own for it, whose name ends
- * with the number; every file that includes this header refers to that name, so what was compiled for another version does
- * not link.
+ * with the number; with GCC or Clang every file that includes this header refers to that name, so what was compiled for
+ * another version does not link.
  */
-#define DOERAGYEOL_VERSION 1
+#define DOERAGYEOL_VERSION 2
 
-uint32_t doeragyeol_version_1(void);
+uint32_t doeragyeol_version_2(void);
 
 #if defined(__GNUC__)
-__attribute__((used)) static uint32_t (*const doeragyeol_made_for)(void) = doeragyeol_version_1;
+__attribute__((used)) static uint32_t (*const doeragyeol_made_for)(void) = doeragyeol_version_2;
 #endif
 
 /* The limits, and how long the rows are that hold all that there can be. */
@@ -132,8 +132,8 @@ static inline uint32_t doeragyeol_place(uint32_t word)
 }
 
 /*
- * Checks a network and its tree. sizes (room for 2) gets how many nodes and how many links there are. Refused by 1 to 9:
- * taken is exactly what is sound.
+ * Checks a network and its tree. sizes (room for 2) gets how many nodes and how many links there are. Refused by 1 to 9,
+ * and then by 10 for the room: taken is exactly what is sound, with room.
  */
 uint32_t doeragyeol_check(const uint16_t *links, size_t links_length, const uint16_t *parents, size_t parents_length,
                           uint16_t root, uint16_t depth, uint64_t *sizes, size_t sizes_length);

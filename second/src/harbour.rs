@@ -1,4 +1,4 @@
-//! The Harbour case, as the paper gives it.
+//! The Harbour case, as the requirements give it.
 
 use crate::limits::*;
 use crate::network::Rows;

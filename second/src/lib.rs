@@ -1,6 +1,6 @@
-//! A second program for the swap table of document 01.
+//! A second program for the swap table that docs/SCOPE.md asks for.
 //!
-//! It is written from the paper's definitions and shares nothing with the
+//! It is written from the requirements' definitions and shares nothing with the
 //! proved library. It makes cases for the probe and series of changes, says
 //! what must be printed for them, lists stored files and writes sample files.
 

@@ -51,7 +51,7 @@ pub fn nearer() -> Rows {
     rows
 }
 
-/// The networks on which document 01's wrong readings give another table.
+/// The networks on which SCOPE's wrong readings give another table.
 fn telling() -> Vec<Named> {
     let longer = Draft::path(2, 5).join(1, 0, 7);
     let list = [

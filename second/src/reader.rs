@@ -1,4 +1,4 @@
-//! The reader of a stored file, in the paper's order for a file.
+//! The reader of a stored file, in SCOPE's order for a file.
 
 use crate::block::{payload, word_at};
 use crate::check::{check_numbers, check_rows};

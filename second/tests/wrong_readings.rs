@@ -1,4 +1,4 @@
-//! The six readings that the paper calls wrong, each told apart from the
+//! The six readings that SCOPE calls wrong, each told apart from the
 //! right one on a network that is named.
 
 mod common;

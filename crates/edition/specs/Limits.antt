@@ -1,4 +1,4 @@
--- The numbers of document 01 that memory holds itself to, and its marks. The stored form has its own (Stored).
+-- The numbers of SCOPE that memory holds itself to, and its marks. The stored form has its own (Stored).
 -- Assumes nothing.
 use Prim.Native.Nat.{ℕ, _*_, _-_}
 use Rattle.edition.specs.declared.Limits.{Limits}

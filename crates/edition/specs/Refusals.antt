@@ -1,4 +1,4 @@
--- The refusal numbers of document 01, in one table. Assumes nothing.
+-- The refusal numbers of SCOPE, in one table. Assumes nothing.
 use mathlib.Core.List.{List, [], _∷_}
 use Prim.Native.Nat.{ℕ}
 use Rattle.edition.specs.declared.Why.{Why}
@@ -7,7 +7,7 @@ use Rattle.edition.specs.declared.Why.the-variants.{NoRoom, LinkMissing,
 use Rattle.edition.specs.declared.Verdict.{Verdict}
 use Rattle.edition.specs.declared.Verdict.the-variants.{Taken, Refused}
 
--- The number that document 01 gives each refusal.
+-- The number that SCOPE gives each refusal.
 unfoldable pub numberOf : Why → ℕ
 numberOf NodeCount = 1
 numberOf LinkCount = 2

@@ -5,7 +5,7 @@ ghost use Rattle.edition.specs.Stored.{editionLimits};
 ghost use Rattle.edition.specs.Refusals.{numberOf};
 ghost use Rattle.edition.specs.Entries.{noSwap, blank, swapBy};
 
-// Why something is refused: a case for each number of document 01's list.
+// Why something is refused: a case for each number of SCOPE's list.
 pub enum Why {
     NodeCount,
     LinkCount,
@@ -26,7 +26,7 @@ pub enum Why {
     BadEntry,
 }
 
-// A refusal: why, and the place that document 01 names for it.
+// A refusal: why, and the place that SCOPE names for it.
 pub struct Refusal {
     pub why: Why,
     pub place: usize,
@@ -260,7 +260,7 @@ pub fn swap_by(entry: Entry, measure: Measure) -> Swap
     }
 }
 
-// The number that document 01 gives a refusal.
+// The number that SCOPE gives a refusal.
 pub fn number(why: Why) -> u16
     ensures { λ r. ⌜ r ≡ numberOf why ⌝ }
 {

@@ -1,4 +1,4 @@
--- Which of document 01's numbers each call can give, beside the check of a network (1 to 9) and the table (1 to 10). Assumes nothing.
+-- Which of SCOPE's numbers each call can give, beside the check of a network (1 to 9) and the table (1 to 10). Assumes nothing.
 use mathlib.Core.Path.{_≡_, refl}
 use mathlib.Core.Bool.{cond}
 use mathlib.Core.List.{List, [], _∷_, _++_}

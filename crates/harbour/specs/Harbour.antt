@@ -1,4 +1,4 @@
--- The Harbour case of document 01: what is asked in P1 to P12, and the numbers that it gives. Assumes nothing.
+-- The Harbour case of SCOPE: what is asked in P1 to P12, and the numbers that it gives. Assumes nothing.
 use mathlib.Core.Bool.{Bool, true, _&&_}
 use mathlib.Core.List.{List, [], _∷_, _++_}
 use Prim.Native.Nat.{ℕ}
@@ -125,7 +125,7 @@ answer (change e s w entries) =
     let after = changed parents (harbour wholeSearch .search) c (record { links = links; entries = entries }) in
     said (changeVerdict (harbour wholeSearch) entries c) ++ after .links ++ after .entries
 
--- A question and the numbers that document 01 gives.
+-- A question and the numbers that SCOPE gives.
 pub data Case : Type 0 where
   _gives_ : Ask → List ℕ → Case
 

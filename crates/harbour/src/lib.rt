@@ -1,1 +1,1 @@
-// The Harbour case of document 01. Its table stands in specs/, its theorem in proofs/.
+// The Harbour case of SCOPE. Its table stands in specs/, its theorem in proofs/.

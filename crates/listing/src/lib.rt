@@ -1,4 +1,4 @@
-// Document 01's listing of what a file holds, printed by way of a lent buffer.
+// SCOPE's listing of what a file holds, printed by way of a lent buffer.
 ghost use mathlib.Core.Path.{_≡_};
 ghost use Prim.Native.Nat.{_≤_};
 ghost use lib.ListN.{length};

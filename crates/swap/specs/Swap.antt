@@ -1,4 +1,4 @@
--- Swap links of a node x and their costs, as document 01 prints them. Assumes nothing.
+-- Swap links of a node x and their costs, as SCOPE prints them. Assumes nothing.
 use mathlib.Core.Bool.{Bool, cond, not, _&&_, _||_}
 use Prim.Native.Nat.{ℕ, _+_, _-_}
 use lib.Dec.{eqb, leb, ltb}

@@ -8,10 +8,10 @@ pub mod raw;
 
 /// The version of the interface that these calls are made for. What is linked refers to it by name, so a library of another
 /// version does not link.
-pub const VERSION: u32 = 1;
+pub const VERSION: u32 = 2;
 
 #[used]
-static MADE_FOR: unsafe extern "C" fn() -> u32 = raw::doeragyeol_version_1;
+static MADE_FOR: unsafe extern "C" fn() -> u32 = raw::doeragyeol_version_2;
 
 /// The most nodes and links there are.
 pub const NODES: usize = 512;

@@ -21,7 +21,7 @@ pub fn rows(parents: &[u16], links: &[[u16; 3]], root: u16) -> Rows {
     }
 }
 
-/// The Harbour case, typed from the paper.
+/// The Harbour case, typed from the requirements.
 pub fn harbour() -> Rows {
     let links = [
         [0, 1, 2],
@@ -35,7 +35,7 @@ pub fn harbour() -> Rows {
     rows(&[65_535, 0, 1, 2, 6], &links, 0)
 }
 
-/// The entries of Harbour at the whole search, typed from the paper.
+/// The entries of Harbour at the whole search, typed from the requirements.
 pub fn harbour_table() -> Vec<u64> {
     [
         [0, NONE, NONE, NONE, 0, 0, 0],
