@@ -78,7 +78,7 @@ fn other_mark(mark: u64) -> u64
     if mark == 0 { 1 } else { 0 }
 }
 
-// The mark of node c becomes the other one.
+// What the row has for node c is turned round: 0 becomes 1 and 1 becomes 0.
 fn flip_at(asked: &mut [u64], c: usize)
     requires { ⌜ c < length (now asked) ⌝ }
     ensures { λ _. ⌜ now (asked .exit) ≡ flippedAt c (now (asked .entry)) ⌝ }

@@ -500,7 +500,7 @@ fn with_link(old: Entry, near: bool, e: u64, c: Costs) -> Entry
     with_crossing(old, e, c)
 }
 
-// Offers link e to the node where the climb is, where that node is marked.
+// Offers link e to the node where the climb is, where that node is asked for.
 fn offer_at(
     links: &[u16],
     parents: &[u16],
@@ -567,7 +567,7 @@ fn below(count: &[u64], side: Side) -> u64
     count[node_of(side)]
 }
 
-// Offers link e to every marked node that it crosses, by a climb from each end up to where the routes meet.
+// Offers link e to every node asked for that it crosses, by a climb from each end up to where the routes meet.
 fn climb_link(
     links: &[u16],
     parents: &[u16],
@@ -623,7 +623,7 @@ fn climb_link(
     }
 }
 
-// Offers link e to every marked node that it crosses; a link out of service and a tree link cross none.
+// Offers link e to every node asked for that it crosses; a link out of service and a tree link cross none.
 fn offer_link(
     links: &[u16],
     parents: &[u16],
@@ -694,7 +694,7 @@ fn first_entry(search: Search, x: usize) -> Entry
     Edition::blank_entry(Edition::BRIDGE)
 }
 
-// The entry of x as it is before any link, where x is marked.
+// The entry of x as it is before any link, where x is asked for.
 fn clear_at(search: Search, asked: &[u64], entries: &mut [u64], x: usize)
     ensures { λ _.
         let before = now (entries .entry) in
@@ -707,8 +707,8 @@ fn clear_at(search: Search, asked: &[u64], entries: &mut [u64], x: usize)
     entries::put_entry(entries, x, first_entry(search, x));
 }
 
-// Each marked node's entry as it is before any link.
-fn clear_marked(parents: &[u16], search: Search, asked: &[u64], entries: &mut [u64])
+// The entry of each node asked for, as it is before any link.
+fn clear_asked(parents: &[u16], search: Search, asked: &[u64], entries: &mut [u64])
     requires { ⌜ length (now parents) ≤ entriesIn (now entries) ⌝ }
     ensures { λ _.
         let before = now (entries .entry) in
@@ -769,8 +769,8 @@ fn offer_links(
     }
 }
 
-// The entries of the marked nodes afresh; all others, and what lies past the entries, stay as they are.
-fn search_marked(links: &[u16], parents: &[u16], search: Search, asked: &[u64], entries: &mut [u64])
+// The entries of the nodes asked for afresh; all others, and what lies past the entries, stay as they are.
+fn search_asked(links: &[u16], parents: &[u16], search: Search, asked: &[u64], entries: &mut [u64])
     requires { let g = netOf (now links) (now parents) search in
         ⌜ (netVerdict g ≡ Taken)
         × (length (now parents) ≤ entriesIn (now entries)) ⌝ }
@@ -806,7 +806,7 @@ fn search_marked(links: &[u16], parents: &[u16], search: Search, asked: &[u64], 
     );
     let mut asides = [0u64; Memory::NODES];
     fill_asides(links, parents, search, &deep, &mut asides);
-    clear_marked(parents, search, asked, entries);
+    clear_asked(parents, search, asked, entries);
     offer_links(
         links,
         parents,
@@ -835,7 +835,7 @@ pub fn check_table(links: &[u16], parents: &[u16], search: Search, entries: &[u6
     rows::refuse_if(entries::entries_in(entries) < sizes.nodes, Why::NoRoom, 0)
 }
 
-// The entries of the marked nodes afresh, all others unwritten. A node is marked by a number that is not 0.
+// The entries of the nodes asked for afresh, all others unwritten. A node is asked for by a number that is not 0.
 pub fn refresh(
     links: &[u16],
     parents: &[u16],
@@ -852,7 +852,7 @@ pub fn refresh(
     let Verdict::Taken = said else {
         return said;
     };
-    search_marked(links, parents, search, asked, entries);
+    search_asked(links, parents, search, asked, entries);
     Verdict::Taken
 }
 
@@ -892,7 +892,7 @@ fn search_one(links: &[u16], parents: &[u16], search: Search, x: usize) -> Entry
     let mut asked = [0u64; Memory::NODES];
     asked[x] = 1;
     let mut entries = [0u64; Memory::ENTRY_ROW];
-    search_marked(links, parents, search, &asked, &mut entries);
+    search_asked(links, parents, search, &asked, &mut entries);
     entries::entry_at(&entries, x)
 }
 

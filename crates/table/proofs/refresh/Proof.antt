@@ -21,9 +21,9 @@ returns : tie.Need-returns
 unfolding netOf
 returns c = fresh-refused _ _ _ _ _ (c .before .before .check-table .ensures) (c .enum-told2 .given .1)
 
-search-marked-requires : tie.Need-search-marked-requires
+search-asked-requires : tie.Need-search-asked-requires
 unfolding netOf
-search-marked-requires c κs =
+search-asked-requires c κs =
     let enum-told = c .before .enum-told in
     let check-table = c .before .before .before .check-table in
     (table-sound _ _ _ (check-table .ensures) (enum-told .given .1), table-room _ _ _ (check-table .ensures) (enum-told .given .1))
@@ -36,7 +36,7 @@ unfolding netOf
 returns-2 c =
     let enum-told = c .before .before .before .before .enum-told in
     let check-table = c .before .before .before .before .before .before .check-table in
-    fresh-taken _ _ _ _ (check-table .ensures) (enum-told .given .1) _ (c .before .before .search-marked .ensures)
+    fresh-taken _ _ _ _ (check-table .ensures) (enum-told .given .1) _ (c .before .before .search-asked .ensures)
 
 pub refresh-spec : {M : Type 1} → statement M
 refresh-spec =
@@ -47,6 +47,6 @@ refresh-spec =
     enum-told-2
     same-length
     returns
-    search-marked-requires
+    search-asked-requires
     same-length-2
     returns-2)

@@ -14,14 +14,14 @@ array-write-asked : tie.Need-array-write-asked
 array-write-asked c =
     omega (arith, c .before .before .pre .1, small _ _ _ (c .before .before .pre .0) (λ i. omega (arith, c .before .shared-slice-known .given i)))
 
-slice-aggregate-search-marked : tie.Need-slice-aggregate-search-marked
-slice-aggregate-search-marked c = search needs
+slice-aggregate-search-asked : tie.Need-slice-aggregate-search-asked
+slice-aggregate-search-asked c = search needs
 
-slice-aggregate-search-marked-2 : tie.Need-slice-aggregate-search-marked-2
-slice-aggregate-search-marked-2 c = search needs
+slice-aggregate-search-asked-2 : tie.Need-slice-aggregate-search-asked-2
+slice-aggregate-search-asked-2 c = search needs
 
-search-marked-requires : tie.Need-search-marked-requires
-search-marked-requires c κs =
+search-asked-requires : tie.Need-search-asked-requires
+search-asked-requires c κs =
     let shared-slice-known = c .before .before .before .shared-slice-known in
     let pre = c .before .before .before .before .pre in
     (pre .0, bare-room _ (small _ _ _ (pre .0) (λ i. omega (arith, shared-slice-known .given i))))
@@ -35,9 +35,9 @@ entry-at-requires c κs = search needs
 returns : tie.Need-returns
 unfolding netOf
 returns c =
-    let search-marked = c .before .before .before .search-marked in
+    let search-asked = c .before .before .before .search-asked in
     let pre = c .before .before .before .before .before .before .before .before .pre in
-    one-known _ _ (pre .1) (pre .0) _ (search-marked .ensures) _ (c .entry-at .ensures)
+    one-known _ _ (pre .1) (pre .0) _ (search-asked .ensures) _ (c .entry-at .ensures)
 
 pub search-one-spec : {M : Type 1} → statement M
 search-one-spec =
@@ -45,9 +45,9 @@ search-one-spec =
     (tie.spec
     mul-asked
     array-write-asked
-    slice-aggregate-search-marked
-    slice-aggregate-search-marked-2
-    search-marked-requires
+    slice-aggregate-search-asked
+    slice-aggregate-search-asked-2
+    search-asked-requires
     slice-aggregate-entry-at
     entry-at-requires
     returns)

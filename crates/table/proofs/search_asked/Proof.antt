@@ -1,9 +1,9 @@
--- `table::search_marked` meets its contract. Assumes nothing.
+-- `table::search_asked` meets its contract. Assumes nothing.
 use native.Mathlib.Omega.{arith}
 use Rattle.table.proofs.Preparing.{holds-row, room-for, zeros, none-counted, nears, counts-all, weights-all, deeps-all, fresh-end}
 use borrow.Author.Needs.{needs}
-use Rattle.table.proofs.search_marked.Statement.{statement}
-use Rattle.table.proofs.search_marked.Tie as tie
+use Rattle.table.proofs.search_asked.Statement.{statement}
+use Rattle.table.proofs.search_asked.Tie as tie
 
 slice-aggregate-distances : tie.Need-slice-aggregate-distances
 slice-aggregate-distances c = search needs
@@ -74,8 +74,8 @@ fill-asides-requires c κs =
     .before .before .before .before .before .before .before .before .before .before .before .before .pre in
     (pre .0, deeps-all _ _ _ (pre .0) _ _ _ (fold-all .ensures), zeros _ _ _ (pre .0))
 
-clear-marked-requires : tie.Need-clear-marked-requires
-clear-marked-requires c κs =
+clear-asked-requires : tie.Need-clear-asked-requires
+clear-asked-requires c κs =
     let pre =
     c .before .before .before .before .before .before .before .before .before .before .before .before .before
     .before .before .before .before .before .before .before .before .before .before .before .before .before
@@ -102,7 +102,7 @@ slice-aggregate-offer-links-6 c = search needs
 
 offer-links-requires : tie.Need-offer-links-requires
 offer-links-requires c κs =
-    let clear-marked = c .before .before .before .before .before .before .before .before .before .clear-marked in
+    let clear-asked = c .before .before .before .before .before .before .before .before .before .clear-asked in
     let fill-asides = c .before .before .before .before .before .before .before .before .before .before .before .before .fill-asides in
     let fill-bases =
     c .before .before .before .before .before .before .before .before .before .before .before .before .before
@@ -130,7 +130,7 @@ offer-links-requires c κs =
       fill-asides .ensures,
       deeps-all _ _ _ (pre .0) _ _ _ (fold-all .ensures),
       omega
-          (arith, pre .1, clear-marked .ensures .size),
+          (arith, pre .1, clear-asked .ensures .size),
     )
 
 same-length : tie.Need-same-length
@@ -138,16 +138,16 @@ same-length c = search needs
 
 returns : tie.Need-returns
 returns c =
-    let clear-marked = c .before .before .before .before .before .before .before .before .before .before .before .before .clear-marked in
+    let clear-asked = c .before .before .before .before .before .before .before .before .before .before .before .before .clear-asked in
     let pre =
     c .before .before .before .before .before .before .before .before .before .before .before .before .before
     .before .before .before .before .before .before .before .before .before .before .before .before .before
     .before .before .before .before .before .before .before .before .before .before .before .before .before
     .before .before .pre in
-    fresh-end _ _ _ (pre .0) _ _ _ _ (clear-marked .ensures) (c .before .before .offer-links .ensures)
+    fresh-end _ _ _ (pre .0) _ _ _ _ (clear-asked .ensures) (c .before .before .offer-links .ensures)
 
-pub search-marked-spec : {M : Type 1} → statement M
-search-marked-spec =
+pub search-asked-spec : {M : Type 1} → statement M
+search-asked-spec =
     tie.close
     (tie.spec
     slice-aggregate-distances
@@ -166,7 +166,7 @@ search-marked-spec =
     slice-aggregate-fill-asides
     slice-aggregate-fill-asides-2
     fill-asides-requires
-    clear-marked-requires
+    clear-asked-requires
     slice-aggregate-offer-links
     slice-aggregate-offer-links-2
     slice-aggregate-offer-links-3

@@ -1,4 +1,4 @@
--- `table::clear_marked` meets its contract. Assumes nothing.
+-- `table::clear_asked` meets its contract. Assumes nothing.
 use Rattle.table.proofs.Searching.{upToNode, clear-start, clear-more, clear-end}
 use Rattle.table.specs.Work.{Entries, startAt}
 use Rattle.entries.specs.Row.{standing}
@@ -6,8 +6,8 @@ use Prim.Native.Nat.{_-_}
 use lib.ListN.{length}
 use native.Mathlib.Omega.{arith}
 use borrow.Author.Needs.{needs}
-use Rattle.table.proofs.clear_marked.Statement.{statement}
-use Rattle.table.proofs.clear_marked.Tie as tie
+use Rattle.table.proofs.clear_asked.Statement.{statement}
+use Rattle.table.proofs.clear_asked.Tie as tie
 
 abbrev Inv-loop : tie.InvT-loop
 Inv-loop parents search asked entries₀ x₀ entries x =
@@ -41,8 +41,8 @@ same-length c = c .before .loop .inv .size
 returns : tie.Need-returns Inv-loop μ-loop
 returns c = clear-end _ _ _ _ _ (c .loop-test .left) _ (c .before .loop .inv)
 
-pub clear-marked-spec : {M : Type 1} → statement M
-clear-marked-spec =
+pub clear-asked-spec : {M : Type 1} → statement M
+clear-asked-spec =
     tie.close
     (tie.spec
     Inv-loop
