@@ -48,8 +48,8 @@ writeVerdict g row = firstly (netVerdict g ∷ refuseIf (ltb (length row) (fileL
 
 -- The file's length where the verdict is taken, else the refusal.
 abbrev pub writeIf : Verdict → ℕ → WriteAnswer
-writeIf Taken length = Is length
-writeIf (Refused r) length = Not r
+writeIf Taken bytes = Is bytes
+writeIf (Refused r) bytes = Not r
 
 -- What the writer answers: the file's length, or the refusal.
 unfoldable pub writeAnswer : Net → List ℕ → WriteAnswer

@@ -88,8 +88,8 @@ payload kind number used b = let part = take payloadBytes (drop frontBytes b) in
 unfoldable pub payloadPlace : ℕ → ℕ → ℕ → List ℕ → ℕ
 payloadPlace kind number used b = ifTaken (blockVerdict kind number used b) frontBytes 0
 
--- A row of 512 bytes made a block of the records from byte 8 on. A row that is no block, or a kind and count of which no block
--- is, stays.
+-- A row of 512 bytes made a block of its first `used` records from byte 8 on. A row of another length stays, and so does one where
+-- no block has this kind and used count.
 unfoldable pub sealed : ℕ → ℕ → ℕ → List ℕ → List ℕ
 sealed kind number used b =
     let records = take (used * recordBytes kind) (drop frontBytes b) in

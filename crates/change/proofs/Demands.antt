@@ -20,7 +20,7 @@ use Rattle.rows.specs.Count.{rowsTo}
 use Rattle.rows.specs.First.{refuseIf, firstly}
 use Rattle.rows.specs.Lists.{has}
 use Rattle.rows.proofs.Numbered.{Gives, if-gives, passed}
-use Rattle.rows.proofs.Refusing.{head-taken, rest-taken, head-passes, if-taken, if-passes, only-one}
+use Rattle.rows.proofs.Refusing.{head-taken, rest-taken, both-taken, none-left, head-passes, if-taken, only-one}
 use Rattle.rows.proofs.Tests.{clash}
 use Rattle.entries.specs.Row.{entryRow, entriesIn, standing, pastEntries}
 use Rattle.entries.proofs.Keeping.{rows-past}
@@ -50,9 +50,10 @@ module _ (parents : List ℕ) (search : Search) (c : Change) (lent : Lent) where
   onThePath x = onPath (treeOf old) (linkIn (lent .links) (c .link) .first) (linkIn (lent .links) (c .link) .second) x
 
   module _ (t : changeVerdict old (lent .entries) c ≡ Taken) where
-    links-are : after .links ≡ setLink (lent .links) c
+    -- the row of links is the lent one with that link's record so changed
+    pub changed-row : after .links ≡ setLink (lent .links) c
     unfolding changed
-    links-are = rw t
+    changed-row = rw t
 
     entries-are : after .entries ≡ mended old (netOf (setLink (lent .links) c) parents search) (c .link) (lent .entries)
     unfolding changed
@@ -69,7 +70,7 @@ module _ (parents : List ℕ) (search : Search) (c : Change) (lent : Lent) where
     changed-fresh x l h =
         ap (λ (r : List ℕ). standing r x) entries-are
         ∙ (on-path-fresh (lent .links) parents search c (allowed old (lent .entries) c t) (lent .entries) room x l h
-        ∙ ap (λ (r : List ℕ). entryRow (entry (netOf r parents search) x)) (sym links-are))
+        ∙ ap (λ (r : List ℕ). entryRow (entry (netOf r parents search) x)) (sym changed-row))
 
     -- each other entry stands as it was lent
     pub changed-kept : (x : ℕ) → x < length parents → onThePath x ≡ false → standing (after .entries) x ≡ standing (lent .entries) x
@@ -90,10 +91,10 @@ module _ (parents : List ℕ) (search : Search) (c : Change) (lent : Lent) where
     pub changed-link : linkIn (after .links) (c .link) ≡ changedLink (linkIn (lent .links) (c .link)) c
     unfolding netOf
     changed-link =
-        ap (λ (r : List ℕ). linkIn r (c .link)) links-are ∙ link-set (lent .links) c (allowed old (lent .entries) c t .there)
+        ap (λ (r : List ℕ). linkIn r (c .link)) changed-row ∙ link-set (lent .links) c (allowed old (lent .entries) c t .there)
 
     pub other-links : (e : ℕ) → (e ≡ c .link → ⊥) → linkIn (after .links) e ≡ linkIn (lent .links) e
-    other-links e n = ap (λ (r : List ℕ). linkIn r e) links-are ∙ link-other (lent .links) c e (ne-eqb e (c .link) n)
+    other-links e n = ap (λ (r : List ℕ). linkIn r e) changed-row ∙ link-other (lent .links) c e (ne-eqb e (c .link) n)
 
 taken-not : {A : Type 0} {r : Refusal} → Taken ≡ Refused r → A
 taken-not q = absurd (subst code q tt)
@@ -141,20 +142,34 @@ module _ (links parents : List ℕ) (search : Search) (entries : List ℕ) (c : 
       ∙ (head-passes _ _ (head-taken _ _ t11)
       ∙ (head-passes _ _ (head-taken _ _ t6) ∙ (head-passes _ _ (head-taken _ _ t12) ∙ only-one _)))
 
-  -- where nothing before it refuses, 13 is given where the changed network would be refused by 9, at the same link
-  pub nine-thirteen : before13 ≡ Taken → netVerdict changedNet ≡ refused NotShort (c .link) → changeVerdict net entries c ≡ refused BreaksShort (c .link)
+  -- where nothing before it refuses, 13 is given, at the changed link, where the changed network would be refused by 9
+  pub nine-thirteen :
+      before13 ≡ Taken → (e : ℕ) → netVerdict changedNet ≡ refused NotShort e → changeVerdict net entries c ≡ refused BreaksShort (c .link)
   unfolding refuseIf
-  nine-thirteen t n = last-decides t ∙ go (breaks net c) refl
+  nine-thirteen t e n = last-decides t ∙ go (breaks net c) refl
     where
       go : (b : Bool) → breaks net c ≡ b → refuseIf (breaks net c) BreaksShort (c .link) ≡ refused BreaksShort (c .link)
-      go true e = rw e
-      go false e = taken-not (sym (taken changedNet (unbroken-sound links parents search c (asked t) e)) ∙ n)
+      go true q = rw q
+      go false q = taken-not (sym (taken changedNet (unbroken-sound links parents search c (asked t) q)) ∙ n)
 
-  -- and nowhere else
-  pub thirteen-nine : before13 ≡ Taken → changeVerdict net entries c ≡ refused BreaksShort (c .link) → netVerdict changedNet ≡ refused NotShort (c .link)
-  unfolding refuseIf
-  thirteen-nine t n = go (breaks net c) refl
+  -- and where 13 is given, nothing before it refuses and the changed network would be refused by 9, at that link
+  pub thirteen-nine :
+      (r : Refusal)
+      → changeVerdict net entries c ≡ Refused r → numberOf (r .why) ≡ 13
+      → (before13 ≡ Taken) × (netVerdict changedNet ≡ refused NotShort (c .link))
+  unfolding changeVerdict numberOf has refuseIf
+  thirteen-nine r h thirteen =
+      let v10 = passed oneToTen _ _ r (table-gives net entries) (rw thirteen) h in
+      let v11 = passed (11 ∷ []) _ _ r (if-gives (11 ∷ []) _ LinkMissing 0 refl) (rw thirteen) (v10 .1) in
+      let v6 = passed (6 ∷ []) _ _ r (if-gives (6 ∷ []) _ BadMark (c .link) refl) (rw thirteen) (v11 .1) in
+      let v12 = passed (12 ∷ []) _ _ r (if-gives (12 ∷ []) _ TreeLink (c .link) refl) (rw thirteen) (v6 .1) in
+      let t : before13 ≡ Taken =
+      both-taken _ _ (v10 .0) (both-taken _ _ (v11 .0) (both-taken _ _ (v6 .0) (both-taken _ _ (v12 .0) none-left))) in
+      (t, go t (v12 .1) (breaks net c) refl)
     where
-      go : (b : Bool) → breaks net c ≡ b → netVerdict changedNet ≡ refused NotShort (c .link)
-      go true e = broken-refused links parents search c (asked t) e
-      go false e = taken-not (sym (last-decides t ∙ rw e) ∙ n)
+      go :
+          before13 ≡ Taken
+          → firstly (refuseIf (breaks net c) BreaksShort (c .link) ∷ []) ≡ Refused r → (b : Bool) → breaks net c ≡ b
+          → netVerdict changedNet ≡ refused NotShort (c .link)
+      go t q true e = broken-refused links parents search c (asked t) e
+      go t q false e = taken-not (sym (only-one _ ∙ rw e) ∙ q)

@@ -1,5 +1,5 @@
--- Demand 3 over any list of changes, refused ones among them: the network stays sound and the table stays the fresh one. Two
--- changes of different links do the same in either order. Assumes nothing.
+-- Demand 3 over any list of changes, refused ones among them: the network stays sound and the table stays the fresh one.
+-- Assumes nothing.
 use mathlib.Core.Path.{_≡_, refl, ap, _∙_}
 use mathlib.Core.List.{List, [], _∷_, _++_}
 use Prim.Native.Nat.{ℕ}
@@ -9,9 +9,10 @@ use Rattle.edition.specs.declared.Search.{Search}
 use Rattle.edition.specs.declared.Verdict.{Verdict}
 use Rattle.edition.specs.declared.Verdict.the-variants.{Taken, Refused}
 use Rattle.network.specs.Network.{netOf}
-use Rattle.sound.proofs.Sounds.{Sound}
+use Rattle.sound.specs.Sound.{netVerdict}
+use Rattle.sound.proofs.Sounds.{taken}
 use Rattle.table.specs.Table.{table}
-use Rattle.change.specs.Change.{changeVerdict, mended, Lent, changed, changedBy}
+use Rattle.change.specs.Change.{changeVerdict, setLink, mended, Lent, changed, changedBy}
 use Rattle.change.proofs.Staying.{allowed, still-sound}
 use Rattle.change.proofs.Mending.{mended-right}
 
@@ -26,7 +27,7 @@ module _ (parents : List ℕ) (search : Search) where
 
   -- the network is sound, and the row of entries is its table and what lies past it
   pub record Right (rest : List ℕ) (lent : Lent) : Type 0 where
-    pub fine : Sound (netOf (lent .links) parents search)
+    pub fine : netVerdict (netOf (lent .links) parents search) ≡ Taken
     pub fresh : lent .entries ≡ table (netOf (lent .links) parents search) ++ rest
 
   step-right : (rest : List ℕ) (c : Change) (lent : Lent) → Right rest lent → Right rest (changed parents search c lent)
@@ -38,7 +39,7 @@ module _ (parents : List ℕ) (search : Search) where
           let a = allowed (netOf (lent .links) parents search) (lent .entries) c q in
           rw q
           (record {
-            fine = still-sound (lent .links) parents search c a;
+            fine = taken (netOf (setLink (lent .links) c) parents search) (still-sound (lent .links) parents search c a);
             fresh = ap (mended _ _ (c .link)) (r .fresh) ∙ mended-right (lent .links) parents search c a rest;
           })
       go (Refused why) q = rw q r

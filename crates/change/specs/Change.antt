@@ -21,7 +21,7 @@ use Rattle.swap.specs.Entry.{entry}
 use Rattle.entries.specs.Row.{entryRow, standing, pastEntries}
 use Rattle.table.specs.Table.{tableVerdict}
 
--- Setting a link in service needs the two inequalities for the new length; withdrawing needs none.
+-- 13: the change sets a link in service and breaks one of the two inequalities for the new length. Withdrawing needs none.
 unfoldable pub breaks : Net → Change → Bool
 breaks g c =
     let l = g .link (c .link) in

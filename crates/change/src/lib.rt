@@ -56,9 +56,9 @@ pub fn check_change(
     let Verdict::Taken = there else {
         return there;
     };
-    let isAsked = rows::refuse_if(network::bad_mark(change.mark), Why::BadMark, e);
-    let Verdict::Taken = isAsked else {
-        return isAsked;
+    let marked = rows::refuse_if(network::bad_mark(change.mark), Why::BadMark, e);
+    let Verdict::Taken = marked else {
+        return marked;
     };
     let spare = rows::refuse_if(network::is_parent(parents, e), Why::TreeLink, e);
     let Verdict::Taken = spare else {

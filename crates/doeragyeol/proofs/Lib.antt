@@ -4,3 +4,4 @@ pub mod Answering
 pub mod Words
 pub mod Places
 pub mod Outcomes
+pub mod Numbers

@@ -32,6 +32,11 @@ numbered BadCheck = omega arith
 numbered BadBlock = omega arith
 numbered BadEntry = omega arith
 
+-- 0 exactly where it was taken
+pub taken-zero : wordOf Taken ≡ 0
+unfolding wordOf
+taken-zero = refl
+
 pub zero-taken : (v : Verdict) → wordOf v ≡ 0 → v ≡ Taken
 unfolding wordOf
 zero-taken Taken q = refl

@@ -1,4 +1,5 @@
--- Which of SCOPE's numbers each call can give, beside the check of a network (1 to 9) and the table (1 to 10). Assumes nothing.
+-- Which of SCOPE's numbers each call can give, and no other; the check of a network (1 to 9) and the table (1 to 10) have theirs
+-- in `sound` and `table`. Assumes nothing.
 use mathlib.Core.Path.{_≡_, refl}
 use mathlib.Core.Bool.{cond}
 use mathlib.Core.List.{List, [], _∷_, _++_}
@@ -28,7 +29,7 @@ map-gives g row =
     (first-gives oneToTen _ _ (if-gives oneToTen _ NoRoom 0 refl) (none-gives oneToTen))
 
 -- a change: 1 to 13
-abbrev oneToThirteen : List ℕ
+abbrev pub oneToThirteen : List ℕ
 oneToThirteen = oneToTen ++ 11 ∷ 12 ∷ 13 ∷ []
 
 pub change-gives : (g : Net) (entries : List ℕ) (c : Change) → Gives oneToThirteen (changeVerdict g entries c)
@@ -48,7 +49,7 @@ write-gives g row =
     (first-gives oneToTen _ _ (if-gives oneToTen _ NoRoom 0 refl) (none-gives oneToTen))
 
 -- a block: 20, 21, 22
-abbrev ofBlocks : List ℕ
+abbrev pub ofBlocks : List ℕ
 ofBlocks = 20 ∷ 21 ∷ 22 ∷ []
 
 pub block-gives : (kind number used : ℕ) (b : List ℕ) → Gives ofBlocks (blockVerdict kind number used b)
@@ -59,7 +60,7 @@ block-gives kind number used b =
     (first-gives ofBlocks _ _ (if-gives ofBlocks _ BadBlock number refl) (none-gives ofBlocks)))
 
 -- a file: 20, 21, 22, 1 to 10, 24
-abbrev ofFiles : List ℕ
+abbrev pub ofFiles : List ℕ
 ofFiles = ofBlocks ++ oneToFour ++ fiveToNine ++ 10 ∷ 24 ∷ []
 
 module _ (file : List ℕ) (n m : ℕ) where

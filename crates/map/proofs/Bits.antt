@@ -2,12 +2,12 @@
 -- the number of ones, and the lowest is the lowest, 65,535 exactly where there is none. Assumes nothing.
 use mathlib.Core.Path.{_≡_, refl, sym, subst, ap, _∙_}
 use mathlib.Core.Bool.{Bool, true, false, _&&_}
-use mathlib.Core.List.{List, []}
+use mathlib.Core.List.{List, [], _∷_}
 use Prim.Native.Nat.{ℕ, zero, suc, _+_, _*_, _/_, _%_, _^_, _<_, _≤_}
 use native.Mathlib.Nat.{pow-succ', div-one, div-div-eq-div-mul, not-suc-le-zero}
 use native.Mathlib.Omega.{arith}
 use lib.Dec.{ltb}
-use lib.ListN.{getD}
+use lib.ListN.{length, getD}
 use borrow.Author.Tests.{ltb-true, ltb-false}
 use Rattle.edition.specs.declared.Found.{Found}
 use Rattle.edition.specs.declared.Found.the-variants.{Nothing, At}
@@ -38,6 +38,11 @@ module _ (g : Net) where
   word-there : (i : ℕ) → i < mapWords → getD (mapOf g) i 0 ≡ word g i
   unfolding mapOf rowWith rowsTo
   word-there i l = filled-at (word g) mapWords [] i l
+
+  -- there are eight words
+  pub map-size : length (mapOf g) ≡ mapWords
+  unfolding mapOf
+  map-size = rows-length (λ i. word g i ∷ []) 1 (λ i. refl) mapWords
 
   -- bit x mod 64 of word x div 64 is 1 where x is a node in state 2 or 3, and 0 elsewhere
   pub map-bit : (x : ℕ) → x < mapWords * wordBits → getD (mapOf g) (x / wordBits) 0 / 2 ^ (x % wordBits) % 2 ≡ onlyIf (unprotected g x) 1

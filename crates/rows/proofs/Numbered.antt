@@ -68,3 +68,11 @@ module _ (ns : List ℕ) where
   unfolding firstly Gives
   passed Taken rest r g n q = (refl, q)
   passed (Refused s) rest r g n q = clash (subst (Gives ns) q g) n
+
+  -- where what stands behind a check cannot give the number of a refusal, the check gave it
+  pub given-first :
+      (v : Verdict) (rest : List Verdict) (r : Refusal)
+      → Gives ns (firstly rest) → has (numberOf (r .why)) ns ≡ false → firstly (v ∷ rest) ≡ Refused r → v ≡ Refused r
+  unfolding firstly Gives
+  given-first Taken rest r g n q = clash (subst (Gives ns) q g) n
+  given-first (Refused s) rest r g n q = q

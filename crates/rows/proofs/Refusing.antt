@@ -78,6 +78,19 @@ pub at-refuses :
 unfolding refuseAt refusedAt
 at-refuses p k why e l h n = ap (refusedAt why) (first-unique p k (first-is p k) (here {e = e} l h n))
 
+-- and what is named is such a place
+pub at-named : (p : ℕ → Bool) (k : ℕ) (why : Why) (r : Refusal) → refuseAt p k why ≡ Refused r → (r .place < k) × (p (r .place) ≡ true)
+unfolding refuseAt refusedAt
+at-named p k why r h = go (first-is p k) h
+  where
+    Named : Verdict → Type 0
+    Named Taken = Unit {0}
+    Named (Refused s) = (s .place < k) × (p (s .place) ≡ true)
+
+    go : {f : Found} → Lowest p k f → refusedAt why f ≡ Refused r → (r .place < k) × (p (r .place) ≡ true)
+    go (nowhere n) q = refused-not (sym q)
+    go (here {e} l t n) q = subst Named q (l, t)
+
 -- checks in number order
 pub to-taken : (f : ℕ → Verdict) (k : ℕ) → verdictTo f k ≡ Taken → (j : ℕ) → j < k → f j ≡ Taken
 unfolding verdictTo

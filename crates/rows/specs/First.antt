@@ -24,26 +24,26 @@ unfoldable pub foundOr : ℕ → Found → ℕ
 foundOr other Nothing = other
 foundOr other (At k) = k
 
--- Refused for this reason at what is found.
+-- Refused for this reason at what is found; taken where nothing is.
 unfoldable pub refusedAt : Why → Found → Verdict
 refusedAt why Nothing = Taken
 refusedAt why (At k) = refused why k
 
--- Refused at the lowest place below k where the test holds.
+-- Refused at the lowest place below k where the test holds; taken where it holds nowhere.
 unfoldable pub refuseAt : (ℕ → Bool) → ℕ → Why → Verdict
 refuseAt p k why = refusedAt why (firstTo p k)
 
--- Refused at this place where the test holds.
+-- Refused at this place where the test holds, else taken.
 unfoldable pub refuseIf : Bool → Why → ℕ → Verdict
 refuseIf b why place = cond b (refused why place) Taken
 
--- The first refusal of a list of checks.
+-- The first refusal of a list of checks; taken where none refuses.
 unfoldable pub firstly : List Verdict → Verdict
 firstly [] = Taken
 firstly (Taken ∷ rest) = firstly rest
 firstly (Refused r ∷ rest) = Refused r
 
--- The first refusal of the checks f 0 to f (k - 1).
+-- The first refusal of the checks f 0 to f (k - 1); taken where none refuses.
 unfoldable pub verdictTo : (ℕ → Verdict) → ℕ → Verdict
 verdictTo f zero = Taken
 verdictTo f (suc k) = firstly (verdictTo f k ∷ f k ∷ [])

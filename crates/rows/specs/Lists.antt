@@ -15,7 +15,7 @@ unfoldable pub upTo : ℕ → List ℕ → List ℕ
 upTo c [] = []
 upTo c (u ∷ r) = let rest = u ∷ upTo c r in cond (eqb u c) [] rest
 
--- The first of a list that is in the other list.
+-- The first of a list that is in the other list, 65,535 where none is.
 unfoldable pub firstOf : List ℕ → List ℕ → ℕ
 firstOf other [] = noNode
 firstOf other (u ∷ r) = let rest = firstOf other r in cond (has u other) u rest

@@ -8,8 +8,8 @@ use borrow.Author.Tests.{leb-false, not-true}
 use Rattle.rows.proofs.Tests.{clash, or3-false, not-so}
 use Rattle.network.specs.Network.{Net, inService, touches, otherEnd}
 use Rattle.network.specs.Records.{badEnds, unfit, badParent}
-use Rattle.tree.specs.Tree.{treeOf, arrives, hasRoute}
-use Rattle.tree.proofs.Ways.{way-climb}
+use Rattle.tree.specs.Tree.{treeOf, climb, route, arrives, hasRoute}
+use Rattle.tree.proofs.Ways.{way-climb, way, way-only}
 use Rattle.tree.proofs.Bounded.{never-cut}
 use Rattle.sound.specs.Sound.{noRoute}
 
@@ -49,6 +49,10 @@ module _ (g : Net) (ends-ok : (e : ℕ) → e < g .links → badEnds (g .nodes) 
   pub cuts-none : (u k : ℕ) → u < g .nodes → arrives (treeOf g) k u ≡ true → hasRoute (treeOf g) u ≡ true
   unfolding treeOf
   cuts-none u k l h = never-cut (treeOf g) parent-node (way-climb (treeOf g) k u h) l
+
+  -- what it climbs until then is its route
+  pub climb-whole : (u k : ℕ) → u < g .nodes → arrives (treeOf g) k u ≡ true → climb (treeOf g) k u ≡ route (treeOf g) u
+  climb-whole u k l h = way-only (treeOf g) (way-climb (treeOf g) k u h) (way (treeOf g) u (cuts-none u k l h))
 
   -- a node without a route does not come to the root within any number of nodes
   pub lost-for-ever : (u : ℕ) → u < g .nodes → noRoute g u ≡ true → (k : ℕ) → arrives (treeOf g) k u ≡ false

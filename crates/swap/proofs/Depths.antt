@@ -11,6 +11,7 @@ use Rattle.edition.specs.declared.Found.the-variants.{Nothing, At}
 use Rattle.edition.specs.declared.Measure.{Measure}
 use Rattle.edition.specs.declared.Measure.the-variants.{Sum, Incr, Max}
 use Rattle.edition.specs.Limits.{depthLimit, wholeSearch}
+use Rattle.edition.specs.Entries.{bridgeState}
 use Rattle.rows.proofs.Best.{best-cong}
 use Rattle.rows.proofs.Counting.{some-cong}
 use Rattle.network.specs.Network.{Net}
@@ -19,9 +20,9 @@ use Rattle.tree.proofs.Bounded.{hops-few}
 use Rattle.sound.proofs.Sounds.{Sound}
 use Rattle.sound.proofs.Holding.{nodes-few, first-in, second-in, home, up-in}
 use Rattle.swap.specs.Swap.{innerEnd, crosses, within, candidate, costOf, before, best}
-use Rattle.swap.specs.Entry.{crossed, hasCandidate, priced, swapOf, entry}
+use Rattle.swap.specs.Entry.{crossed, hasCandidate, state, priced, swapOf, entry}
 use Rattle.swap.proofs.Choosing.{best-by}
-use Rattle.swap.proofs.Stating.{stateBelow, entry-root, entry-own}
+use Rattle.swap.proofs.Stating.{stateBelow, entry-root, entry-own, bridge-uncrossed, uncrossed-bridge}
 use Rattle.swap.proofs.Costing.{crossing-splits, of-inner}
 
 -- the same network at another depth
@@ -98,3 +99,8 @@ same-entry g s x = go (eqb x (g .search .root)) refl
           incr = same-swap g s x q Incr i;
           max = same-swap g s x q Max i;
         })
+
+-- a bridge at one depth is a bridge at every depth
+pub bridge-stays : (g : Net) (x depth : ℕ) → eqb x (g .search .root) ≡ false → state g x ≡ bridgeState → state (atDepth g depth) x ≡ bridgeState
+unfolding atDepth treeOf
+bridge-stays g x depth r q = uncrossed-bridge (atDepth g depth) x r (bridge-uncrossed g x r q)

@@ -26,7 +26,8 @@ use Rattle.swap.proofs.Choosing.{Chosen, chosen, nothing-stands, nothin
 abbrev pub Crossing : Net → ℕ → ℕ → Type 0
 Crossing g x e = (e < g .links) × (crosses (treeOf g) x e (g .link e) ≡ true)
 
-abbrev Candidate : Net → ℕ → ℕ → Type 0
+-- link e is a candidate of x in the network
+abbrev pub Candidate : Net → ℕ → ℕ → Type 0
 Candidate g x e = (e < g .links) × (candidate g x e ≡ true)
 
 -- a candidate crosses
@@ -173,6 +174,19 @@ module _ (g : Net) (x : ℕ) where
       go true h b k = rw (state-below r, h)
       go false h true k = rw (state-below r, h, k, uncandidate Sum h, uncandidate Incr h, uncandidate Max h)
       go false h false k = rw (state-below r, h, k, uncandidate Sum h, uncandidate Incr h, uncandidate Max h)
+
+  -- state 0 stands at the root alone
+  pub root-alone : state g x ≡ rootState → eqb x (g .search .root) ≡ true
+  root-alone q = go (eqb x (g .search .root)) refl
+    where
+      below : {n : ℕ} → Stated n → n ≡ rootState → eqb x (g .search .root) ≡ true
+      below (swap p) z = absurd (omega arith)
+      below (far p c) z = absurd (omega arith)
+      below (bridge c) z = absurd (omega arith)
+
+      go : (b : Bool) → eqb x (g .search .root) ≡ b → eqb x (g .search .root) ≡ true
+      go true e = e
+      go false e = below (stated e) q
 
   -- an entry in state 1 is of a node that is not the root
   swap-below : state g x ≡ swapState → eqb x (g .search .root) ≡ false

@@ -13,11 +13,11 @@ use Rattle.network.specs.declared.Link.{Link}
 use Rattle.network.specs.Network.{Net, inService}
 use Rattle.tree.specs.Tree.{Tree, treeOf, dist, under, hops, apart}
 
--- z, the end of a link that is in T(x).
+-- z, of a link that crosses x: its end in T(x).
 unfoldable pub innerEnd : Tree → ℕ → Link → ℕ
 innerEnd t x l = cond (under t x (l .first)) (l .first) (l .second)
 
--- z', the other end.
+-- z', of a link that crosses x: its other end.
 unfoldable pub outerEnd : Tree → ℕ → Link → ℕ
 outerEnd t x l = cond (under t x (l .first)) (l .second) (l .first)
 
@@ -44,7 +44,7 @@ newDist t x l u = apart t u (innerEnd t x l) + l .length + dist t (outerEnd t x 
 unfoldable pub inside : Tree → ℕ → (ℕ → ℕ) → ℕ → ℕ
 inside t x f u = let v = f u in onlyIf (under t x u) v
 
--- Sum: the N(u) added over T(x). Incr: the largest N(u) - d(u). Max: the largest N(u).
+-- Sum: the N(u) added over T(x). Incr: the largest N(u) - d(u), which is never below 0 (`never-nearer`). Max: the largest N(u).
 unfoldable pub cost : Measure → Tree → ℕ → Link → ℕ
 cost Sum t x l = sumTo (inside t x (newDist t x l)) (t .size)
 cost Incr t x l = maxTo (inside t x (λ u. newDist t x l u - dist t u)) (t .size)

@@ -43,15 +43,15 @@ entryIf (Refused r) e = Not r
 unfoldable pub entryAnswer : Net → ℕ → EntryAnswer
 entryAnswer g x = entryIf (entryVerdict g x) (entry g x)
 
--- Is a node among those to be worked out?
+-- Is a node asked for: is its number in the row not 0? Past the end it is 0.
 unfoldable pub isAsked : List ℕ → ℕ → Bool
 isAsked asked x = not (eqb (getD asked x 0) 0)
 
--- The record of x: its entry's where x is marked, elsewhere as it stands.
+-- The record of x: its entry's where x is asked for, elsewhere as it stands.
 unfoldable pub freshAt : Net → List ℕ → List ℕ → ℕ → List ℕ
 freshAt g asked row x = cond (isAsked asked x) (entryRow (entry g x)) (standing row x)
 
--- The lent row with the entries of the marked nodes afresh, or on a refusal what it held.
+-- The lent row with the entries of the nodes asked for afresh, or on a refusal what it held.
 unfoldable pub freshRow : Net → List ℕ → List ℕ → List ℕ
 freshRow g asked row =
     let new = rowsTo (freshAt g asked row) (g .nodes) ++ pastEntries (g .nodes) row in

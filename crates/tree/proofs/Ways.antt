@@ -39,7 +39,8 @@ module _ (t : Tree) where
   unfolding route hasRoute
   way u h = way-climb (t .size) u h
 
-  way-only : {u : ℕ} {r s : List ℕ} → Way t u r → Way t u s → r ≡ s
+  -- a node has one way
+  pub way-only : {u : ℕ} {r s : List ℕ} → Way t u r → Way t u s → r ≡ s
   way-only (top e) (top f) = refl
   way-only (top e) (hop f w) = clash e f
   way-only (hop e w) (top f) = clash f e

@@ -32,7 +32,7 @@ unfoldable pub climb : Tree → ℕ → ℕ → List ℕ
 climb t zero u = []
 climb t (suc k) u = let rest = climb t k (t .up u) in u ∷ cond (eqb u (t .root)) [] rest
 
--- The route from u to the root. It is cut after as many nodes as there are, which cuts no route that ends at the root.
+-- The route from u to the root, cut after as many nodes as there are. Where 5 and 7 refuse nothing this cuts none (`cuts-none`).
 unfoldable pub route : Tree → ℕ → List ℕ
 route t u = climb t (t .size) u
 
@@ -41,7 +41,7 @@ unfoldable pub arrives : Tree → ℕ → ℕ → Bool
 arrives t zero u = false
 arrives t (suc k) u = let rest = arrives t k (t .up u) in eqb u (t .root) || rest
 
--- Does u have a route to the root?
+-- Does u have a route to the root? It has as many nodes as there are at most, where 5 and 7 refuse nothing (`cuts-none`).
 unfoldable pub hasRoute : Tree → ℕ → Bool
 hasRoute t u = arrives t (t .size) u
 

@@ -1,0 +1,41 @@
+-- Which of SCOPE's numbers each call from C can give, and no other. Assumes nothing.
+use mathlib.Core.Path.{_≡_, refl}
+use mathlib.Core.List.{List, [], _∷_, _++_}
+use Prim.Native.Nat.{ℕ}
+use Rattle.edition.specs.declared.Verdict.{Verdict}
+use Rattle.edition.specs.declared.Why.the-variants.{NoRoom}
+use Rattle.edition.specs.Refusals.{numberOf}
+use Rattle.rows.specs.Lists.{has}
+use Rattle.rows.proofs.Numbered.{Gives, if-gives, none-gives, first-gives, gives-left}
+use Rattle.network.specs.Network.{Net}
+use Rattle.sound.specs.Sound.{netVerdict}
+use Rattle.sound.proofs.Numbers.{oneToNine, net-gives}
+use Rattle.table.proofs.Numbers.{oneToTen}
+use Rattle.map.specs.Map.{mapVerdict}
+use Rattle.archive.specs.Writer.{writeVerdict}
+use Rattle.doeragyeol.specs.Word.{thenRoom}
+use Rattle.doeragyeol.specs.Calls.{checkSaid, mapSaid, writeSaid}
+
+then-gives : (v : Verdict) (n : ℕ) (row : List ℕ) → Gives oneToTen v → Gives oneToTen (thenRoom v n row)
+unfolding thenRoom numberOf has
+then-gives v n row h = first-gives oneToTen _ _ h (first-gives oneToTen _ _ (if-gives oneToTen _ NoRoom 0 refl) (none-gives oneToTen))
+
+network-gives : (g : Net) → Gives oneToTen (netVerdict g)
+network-gives g = gives-left oneToNine (10 ∷ []) _ (net-gives g)
+
+-- the check, the map and the writer: no number but 1 to 10
+pub check-said-gives : (g : Net) (row : List ℕ) → Gives oneToTen (checkSaid g row)
+unfolding checkSaid
+check-said-gives g row = then-gives (netVerdict g) 2 row (network-gives g)
+
+pub map-said-gives : (g : Net) (words row : List ℕ) → Gives oneToTen (mapSaid g words row)
+unfolding mapSaid mapVerdict numberOf has
+map-said-gives g words row =
+    then-gives (mapVerdict g words) 2 row
+    (first-gives oneToTen _ _ (network-gives g) (first-gives oneToTen _ _ (if-gives oneToTen _ NoRoom 0 refl) (none-gives oneToTen)))
+
+pub write-said-gives : (g : Net) (file row : List ℕ) → Gives oneToTen (writeSaid g file row)
+unfolding writeSaid writeVerdict numberOf has
+write-said-gives g file row =
+    then-gives (writeVerdict g file) 1 row
+    (first-gives oneToTen _ _ (network-gives g) (first-gives oneToTen _ _ (if-gives oneToTen _ NoRoom 0 refl) (none-gives oneToTen)))
