@@ -38,7 +38,7 @@ uint64_t painted_put_link(uint8_t *bytes, size_t bytes_length, size_t at, uint16
 uint64_t painted_put_entry(uint8_t *bytes, size_t bytes_length, size_t at, uint16_t parent, uint64_t state, uint64_t link,
     uint64_t cost);
 
-uint64_t painted_check_routes(PAINTED_NETWORK);
+uint64_t painted_survey(PAINTED_NETWORK, uint64_t *row, size_t row_length);
 uint64_t painted_check_network(PAINTED_NETWORK);
 
 uint64_t painted_check_table(PAINTED_NETWORK, const uint64_t *entries, size_t entries_length);

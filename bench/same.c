@@ -66,24 +66,44 @@ static int good_parents(const struct network *net)
     return 1;
 }
 
-// Whether u has a route to the root: a climb of at most n steps.
-static int has_route(const struct network *net, size_t u)
+// The nodes from u up to the first that has a seat, written into a row: how many they are. n where u has no route.
+static size_t climb_free(const struct network *net, const uint16_t *seats, uint16_t *path, size_t u)
 {
-    for (size_t k = 0; k < net->n; k++) {
-        if (u == net->root)
-            return 1;
+    size_t k = 0;
+    for (; k < net->n && seats[u] == 0; k++) {
+        path[k] = (uint16_t)u;
         u = up(net, u);
     }
-    return 0;
+    return k;
 }
 
-// Refusal 8.
-static int good_routes(const struct network *net)
+// Refusal 8, and the nodes in an order with every parent before its children.
+static int in_order(const struct network *net, uint16_t *order)
 {
-    for (size_t u = 0; u < net->n; u++)
-        if (!has_route(net, u))
+    uint16_t seats[NODES] = {0}, path[NODES];
+    size_t m = 1;
+    order[0] = (uint16_t)net->root;
+    seats[net->root] = 1;
+    for (size_t u = 0; u < net->n; u++) {
+        size_t k = climb_free(net, seats, path, u);
+        if (k == net->n)
             return 0;
+        while (k > 0) {
+            uint16_t v = path[--k];
+            order[m] = v;
+            seats[v] = (uint16_t)++m;
+        }
+    }
     return 1;
+}
+
+// d(u) of every node, in that order.
+static void walk(const struct network *net, const uint16_t *order, uint64_t *row)
+{
+    for (size_t i = 0; i < net->n; i++) {
+        size_t v = order[i];
+        row[v] = v == net->root ? 0 : row[up(net, v)] + net->links[net->parents[v]].length;
+    }
 }
 
 // d(u) of every node, by one climb a node.
@@ -100,11 +120,14 @@ static void distances(const struct network *net, uint64_t *row)
     }
 }
 
-// Refusal 9.
-static int good_short(const struct network *net)
+// Refusals 8 and 9.
+static int good_tree(const struct network *net)
 {
+    uint16_t order[NODES];
     uint64_t row[NODES];
-    distances(net, row);
+    if (!in_order(net, order))
+        return 0;
+    walk(net, order, row);
     for (size_t e = 0; e < net->m; e++) {
         struct link l = net->links[e];
         uint64_t p = row[l.first], q = row[l.second];
@@ -253,8 +276,7 @@ static void offer_link(const struct network *net, const struct rows *rows, uint6
 
 static int table(const struct network *net, uint64_t *entries)
 {
-    if (!good_sizes(net) || !good_ends(net) || !good_marks(net) || !good_parents(net) || !good_routes(net)
-        || !good_short(net))
+    if (!good_sizes(net) || !good_ends(net) || !good_marks(net) || !good_parents(net) || !good_tree(net))
         return 0;
     struct rows rows;
     fill(rows.marks, net->n, 1);

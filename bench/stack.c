@@ -64,7 +64,7 @@ typedef uint64_t call(struct lent *l);
     CALL("record::put_header", painted_put_header, BYTES, 0, l->number, l->used, l->root, l->depth)              \
     CALL("record::put_link", painted_put_link, BYTES, 0, l->number, l->used, l->length, l->mark)                 \
     CALL("record::put_entry", painted_put_entry, BYTES, 0, l->number, l->mark, l->link, l->length)               \
-    CALL("sound::check_routes", painted_check_routes, NET)                                                       \
+    CALL("survey::distances", painted_survey, NET, ROW(row))                                                     \
     CALL("sound::check_network", painted_check_network, NET)                                                     \
     CALL("table::check_table", painted_check_table, NET, ROW(entries))                                           \
     CALL("table::refresh", painted_refresh, NET, ROW(marks), ROW(entries))                                       \

@@ -283,13 +283,14 @@ pub extern "C" fn painted_put_entry(
 }
 
 #[no_mangle]
-pub extern "C" fn painted_check_routes(
+pub extern "C" fn painted_survey(
     links: &[u16],
     parents: &[u16],
     root: u16,
     depth: u16,
+    row: &mut [u64],
 ) -> u64 {
-    said(sound::check_routes(links, parents, Search { root, depth }))
+    said(survey::distances(links, parents, Search { root, depth }, row))
 }
 
 #[no_mangle]

@@ -103,3 +103,32 @@ sum-less f g (suc k) j l m h = go (sum-less f g k j) (eqb j k) refl
     go : (j < k → f j < g j → ((i : ℕ) → i < k → f i ≤ g i) → sumTo f k < sumTo g k) → (b : Bool) → eqb j k ≡ b → sumTo f (suc k) < sumTo g (suc k)
     go ih true e = omega (arith, sum-le f g k (λ i n. h i (omega arith)), ap f (eqb-true j k e), ap g (eqb-true j k e))
     go ih false e = omega (arith, ih (omega (arith, eqb-false j k e)) m (λ i n. h i (omega arith)), h k (omega arith))
+
+-- two sums that differ at one place
+pub sum-one :
+    (f g : ℕ → ℕ) (k v d : ℕ)
+    → v < k → f v ≡ g v + d → ((i : ℕ) → i < k → (i ≡ v → ⊥) → f i ≡ g i) → sumTo f k ≡ sumTo g k + d
+unfolding sumTo
+sum-one f g zero v d l e h = absurd (not-suc-le-zero l)
+sum-one f g (suc k) v d l e h = go (sum-one f g k v d) (eqb v k) refl
+  where
+    go :
+        (v < k → f v ≡ g v + d → ((i : ℕ) → i < k → (i ≡ v → ⊥) → f i ≡ g i) → sumTo f k ≡ sumTo g k + d)
+        → (b : Bool) → eqb v k ≡ b → sumTo f (suc k) ≡ sumTo g (suc k) + d
+    go ih true q =
+        let same = eqb-true v k q in
+        omega (arith, sum-cong f g k (λ i m. h i (omega arith) (λ z. absurd (omega arith))), ap f same, ap g same)
+    go ih false q =
+        let other = eqb-false v k q in
+        omega (arith, ih (omega arith) e (λ i m n. h i (omega arith) n), h k (omega arith) (λ z. absurd (omega arith)))
+
+-- a sum of ones, and of nothing
+pub sum-ones : (f : ℕ → ℕ) (k : ℕ) → ((i : ℕ) → i < k → f i ≡ 1) → sumTo f k ≡ k
+unfolding sumTo
+sum-ones f zero h = refl
+sum-ones f (suc k) h = omega (arith, sum-ones f k (λ i l. h i (omega arith)), h k (omega arith))
+
+pub sum-none : (f : ℕ → ℕ) (k : ℕ) → ((i : ℕ) → i < k → f i ≡ 0) → sumTo f k ≡ 0
+unfolding sumTo
+sum-none f zero h = refl
+sum-none f (suc k) h = omega (arith, sum-none f k (λ i l. h i (omega arith)), h k (omega arith))

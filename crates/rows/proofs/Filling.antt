@@ -1,15 +1,16 @@
--- The loop that writes one number after the other at the beginning of a row. Every such loop cites this. Assumes nothing.
+-- The loop that writes one number after the other at the beginning of a row; every such loop cites this. And a row whose first
+-- numbers were written in any order. Assumes nothing.
 use mathlib.Core.Path.{_≡_, refl, sym, ap, _∙_}
 use mathlib.Core.Bool.{Bool, true, false}
 use mathlib.Core.List.{List, [], _∷_, _++_, append-assoc}
-use Prim.Native.Nat.{ℕ, zero, suc, _+_, _<_, _≤_}
+use Prim.Native.Nat.{ℕ, zero, suc, _+_, _-_, _<_, _≤_}
 use native.Mathlib.Nat.{not-suc-le-zero}
 use native.Mathlib.Numerals.{add-one}
 use native.Mathlib.Omega.{arith}
-use lib.Dec.{eqb}
+use lib.Dec.{eqb, ltb}
 use lib.ListN.{length, getD, set, drop, length-append, length-drop, List·getD-append}
-use borrow.Author.Tests.{eqb-true, eqb-false}
-use lib.Seq.{drop-cons, set-at, getD-at}
+use borrow.Author.Tests.{eqb-true, eqb-false, ltb-true, ltb-false}
+use lib.Seq.{drop-cons, set-at, getD-at, getD-append-add, getD-drop, ext-getD}
 use Rattle.rows.specs.Count.{rowsTo, rowWith}
 use Rattle.rows.proofs.Records.{rows-length}
 
@@ -77,3 +78,27 @@ pub filled-at : (f : ℕ → ℕ) (n : ℕ) (row : List ℕ) (i : ℕ) → i < n
 unfolding rowWith
 filled-at f n row i l =
     List·getD-append (rowsTo (λ u. f u ∷ []) n) (drop n row) 0 i (omega (arith, front-length f row n)) ∙ front-at f row n i l
+
+-- what lies past the numbers written
+filled-past : (f : ℕ → ℕ) (n : ℕ) (row : List ℕ) (k : ℕ) → n ≤ length row → n ≤ k → getD (rowWith f n row) k 0 ≡ getD row k 0
+unfolding rowWith
+filled-past f n row k l m =
+    let front = rowsTo (λ u. f u ∷ []) n in
+    let long : length front ≡ n = front-length f row n in
+    let at : k ≡ length front + (k - n) = omega arith in
+    let back : n + (k - n) ≡ k = omega arith in
+    ap (λ (j : ℕ). getD (front ++ drop n row) j 0) at ∙ getD-append-add front (drop n row) (k - n) 0 ∙ getD-drop n row (k - n) 0 ∙
+    ap (λ (j : ℕ). getD row j 0) back
+
+-- numbers written in any order
+pub row-with :
+    (f : ℕ → ℕ) (n : ℕ) (before row : List ℕ)
+    → n ≤ length before → length row ≡ length before
+    → ((u : ℕ) → u < n → getD row u 0 ≡ f u) → ((k : ℕ) → n ≤ k → getD row k 0 ≡ getD before k 0)
+    → row ≡ rowWith f n before
+row-with f n before row room same done rest =
+    ext-getD 0 row (rowWith f n before) (same ∙ sym (fill-length f before n room)) (λ k j. go k (ltb k n) refl)
+  where
+    go : (k : ℕ) (b : Bool) → ltb k n ≡ b → getD row k 0 ≡ getD (rowWith f n before) k 0
+    go k true e = let low = ltb-true k n e in done k low ∙ sym (filled-at f n before k low)
+    go k false e = let high = ltb-false k n e in rest k high ∙ sym (filled-past f n before k room high)

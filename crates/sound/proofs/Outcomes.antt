@@ -2,20 +2,10 @@
 use Prim.Native.Nat.{ℕ}
 use mathlib.Core.List.{List}
 use Rattle.edition.specs.declared.Search.{Search}
-use Rattle.edition.specs.declared.Why.the-variants.{NoRoute}
 use Rattle.network.specs.Network.{netOf}
-use Rattle.rows.specs.First.{refuseAt}
-use Rattle.sound.specs.Sound.{noRoute, keepsShort, checked, handedUp}
+use Rattle.sound.specs.Sound.{keepsShort, checked, handedUp}
 use Rattle.sound.specs.declared.Checked.{Checked}
-use lib.ListN.{length}
 use Rattle.edition.proofs.Only.{One, one}
-
--- `sound::check_routes`
-pub one-check-routes :
-    (links parents : List ℕ) (search : Search) →
-    let g = netOf links parents search in
-    One (refuseAt (noRoute g) (length parents) NoRoute)
-one-check-routes links parents search = one _
 
 -- `sound::keeps_short`
 pub one-keeps-short : (p q w : ℕ) → One (keepsShort p q w)

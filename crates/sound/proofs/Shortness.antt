@@ -1,5 +1,5 @@
--- Shortness by a row of distances is shortness by the distances. Assumes nothing.
-use mathlib.Core.Path.{_≡_, refl, sym, _∙_}
+-- Refusals 8 and 9 by a walk over the nodes and its row of distances are those by the definitions. Assumes nothing.
+use mathlib.Core.Path.{_≡_, refl, sym, ap, _∙_}
 use mathlib.Core.Bool.{Bool, true, false, _&&_}
 use mathlib.Core.List.{List}
 use Prim.Native.Nat.{ℕ, _+_, _-_, _<_, _≤_}
@@ -8,23 +8,29 @@ use lib.Dec.{eqb, leb}
 use lib.ListN.{length}
 use borrow.Author.Tests.{leb-true, leb-false, le-leb, lt-leb}
 use Rattle.edition.specs.declared.Verdict.{Verdict}
-use Rattle.edition.specs.declared.Verdict.the-variants.{Taken}
+use Rattle.edition.specs.declared.Verdict.the-variants.{Taken, Refused}
+use Rattle.edition.specs.declared.Found.{Found}
+use Rattle.edition.specs.declared.Refusal.{Refusal}
 use Rattle.edition.specs.declared.Search.{Search}
-use Rattle.edition.specs.declared.Why.the-variants.{BadEnds}
+use Rattle.edition.specs.declared.Why.the-variants.{NoRoute, NotShort}
 use Rattle.edition.specs.Limits.{nodeLimit, memoryLimits}
+use Rattle.edition.specs.Refusals.{ifTaken}
 use Rattle.rows.specs.Count.{rowWith}
-use Rattle.rows.specs.First.{firstTo, refuseAt}
+use Rattle.rows.specs.First.{firstTo, refusedAt, refuseAt}
 use Rattle.rows.proofs.Tests.{or3-false}
 use Rattle.rows.proofs.Best.{first-cong}
 use Rattle.rows.proofs.Filling.{filled-at}
-use Rattle.rows.proofs.Refusing.{at-taken}
+use Rattle.rows.proofs.Refusing.{head-refuses, head-passes, only-one}
 use Rattle.network.specs.Network.{Net, linksIn, linkIn, netOf}
 use Rattle.network.specs.Records.{badNodes, badEnds}
 use Rattle.tree.specs.Tree.{treeOf, dist}
 use Rattle.tree.specs.Answers.{distanceRow}
 use Rattle.tree.proofs.Answering.{few-nodes, room-passes}
-use Rattle.sound.specs.Sound.{keepsShort, short, notShort}
-use Rattle.sound.specs.Work.{breaksBy, EndsIn}
+use Rattle.survey.specs.Survey.{routeless, closedVerdict, surveyVerdict, surveyRow}
+use Rattle.survey.proofs.Surveyed.{closed-passes, survey-is}
+use Rattle.sound.specs.Sound.{noRoute, keepsShort, short, notShort}
+use Rattle.sound.specs.Work.{breaksBy, Passed, treeVerdict}
+use Rattle.sound.proofs.Closing.{parent-node}
 
 -- the two inequalities by the difference of the distances
 pub short-more : (p q w : ℕ) → p < q → leb (q - p) w ≡ keepsShort p q w
@@ -47,29 +53,6 @@ module _ (links parents : List ℕ) (search : Search) where
   abbrev g : Net
   g = netOf links parents search
 
-  ends-say :
-      (e : ℕ)
-      → badEnds (length parents) (linkIn links e) ≡ false
-      → (leb (length parents) (linkIn links e .first) ≡ false)
-      × (leb (length parents) (linkIn links e .second) ≡ false)
-      × (eqb (linkIn links e .first) (linkIn links e .second) ≡ false)
-  unfolding badEnds
-  ends-say e h =
-      or3-false (leb (length parents) (linkIn links e .first)) (leb (length parents) (linkIn links e .second))
-      (eqb (linkIn links e .first) (linkIn links e .second)) h
-
-  -- refusal 5 taken
-  pub ends-known :
-      (v : Verdict)
-      → v ≡ refuseAt (λ e. badEnds (length parents) (linkIn links e)) (linksIn links) BadEnds → v ≡ Taken
-      → EndsIn links (length parents)
-  ends-known v q p =
-      let ok = at-taken (λ e. badEnds (length parents) (linkIn links e)) (linksIn links) BadEnds (sym q ∙ p) in
-      record {
-        first-in = λ e l. leb-false (length parents) (linkIn links e .first) (ends-say e (ok e l) .0);
-        second-in = λ e l. leb-false (length parents) (linkIn links e .second) (ends-say e (ok e l) .1);
-      }
-
   -- the row of distances, of a network within the limit
   pub filled-row :
       (row after : List ℕ)
@@ -81,21 +64,51 @@ module _ (links parents : List ℕ) (search : Search) where
       let t = room-passes (length parents) (length row) small (omega (arith, few-nodes (length parents) small)) in
       q ∙ rw t
 
-  breaks-is :
-      EndsIn links (length parents)
-      → (row : List ℕ) → (e : ℕ) → e < linksIn links
-      → breaksBy (rowWith (dist (treeOf g)) (length parents) row) (linkIn links e)
-      ≡ notShort g e
-  unfolding breaksBy notShort short netOf
-  breaks-is n row e l =
-      rw (
-        filled-at (dist (treeOf g)) (length parents) row (linkIn links e .first) (n .first-in e l),
-        filled-at (dist (treeOf g)) (length parents) row (linkIn links e .second) (n .second-in e l),
-      )
+  module _ (passed : Passed g) (row : List ℕ) (room : length row ≡ nodeLimit) where
+    -- both ends of a link are nodes
+    ends-in : (e : ℕ) → e < linksIn links → (linkIn links e .first < length parents) × (linkIn links e .second < length parents)
+    unfolding badEnds netOf
+    ends-in e l =
+        let say =
+        or3-false (leb (length parents) (linkIn links e .first)) (leb (length parents) (linkIn links e .second))
+        (eqb (linkIn links e .first) (linkIn links e .second)) (passed .ends-ok e l) in
+        (leb-false (length parents) (linkIn links e .first) (say .0), leb-false (length parents) (linkIn links e .second) (say .1))
 
-  pub first-breaking-is :
-      EndsIn links (length parents)
-      → (row after : List ℕ) → after ≡ rowWith (dist (treeOf g)) (length parents) row
-      → firstTo (λ e. breaksBy after (linkIn links e)) (linksIn links)
-      ≡ firstTo (notShort g) (linksIn links)
-  first-breaking-is n row after q = rw q (first-cong _ _ (linksIn links) (breaks-is n row))
+    breaks-is :
+        (e : ℕ) → e < linksIn links
+        → breaksBy (rowWith (dist (treeOf g)) (length parents) row) (linkIn links e) ≡ notShort g e
+    unfolding breaksBy notShort short netOf
+    breaks-is e l =
+        rw (
+          filled-at (dist (treeOf g)) (length parents) row (linkIn links e .first) (ends-in e l .0),
+          filled-at (dist (treeOf g)) (length parents) row (linkIn links e .second) (ends-in e l .1),
+        )
+
+    -- a walk over the nodes refuses for 8 alone
+    walk-taken : closedVerdict g (length row) ≡ Taken
+    unfolding netOf
+    walk-taken =
+        closed-passes g (length row) (passed .nodes-ok) (omega (arith, few-nodes (length parents) (passed .nodes-ok))) (passed .root-ok)
+        (parent-node g (passed .ends-ok) (passed .parents-ok))
+
+    module _ (v : Verdict) (after : List ℕ) (q : (v ≡ surveyVerdict g row) × (after ≡ surveyRow g row)) where
+      walked-is : v ≡ refuseAt (noRoute g) (g .nodes) NoRoute
+      unfolding refuseAt noRoute routeless
+      walked-is =
+          q .0 ∙ survey-is g row _ refl walk-taken ∙ ap (refusedAt NoRoute) (first-cong (routeless (treeOf g)) (noRoute g) (g .nodes) (λ u l. refl))
+
+      pub tree-refused : (r : Refusal) → v ≡ Refused r → v ≡ treeVerdict g
+      unfolding treeVerdict
+      tree-refused r t = t ∙ sym (head-refuses _ _ r (sym walked-is ∙ t))
+
+      pub tree-walked :
+          v ≡ Taken
+          → (f : Found) → f ≡ firstTo (λ e. breaksBy after (linkIn links e)) (linksIn links)
+          → (w : Verdict) → w ≡ refusedAt NotShort f → w ≡ treeVerdict g
+      unfolding treeVerdict surveyRow refuseAt netOf
+      tree-walked t f p w s =
+          let filled : after ≡ rowWith (dist (treeOf g)) (length parents) row =
+          q .1
+          ∙ ap (λ (x : Verdict). ifTaken x (rowWith (dist (treeOf g)) (length parents) row) row) (sym (q .0) ∙ t) in
+          let same = p ∙ ap (λ (r : List ℕ). firstTo (λ e. breaksBy r (linkIn links e)) (linksIn links)) filled ∙ first-cong _ _ (linksIn links) breaks-is in
+          s ∙ ap (refusedAt NotShort) same ∙ sym (head-passes _ _ (sym walked-is ∙ t) ∙ only-one _)

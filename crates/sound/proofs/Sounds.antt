@@ -57,12 +57,17 @@ sizes-say g t1 =
       depth-ok = if-taken _ BadDepth 0 (head-taken _ _ t4);
     }
 
--- of numbers: 1 is among what is taken
-pub sizes-nodes :
+-- of numbers: 1 and 3 are among what is taken
+pub sizes-known :
     (most : Limits) (n m : ℕ) (search : Search) (v : Verdict)
-    → most ≡ memoryLimits → v ≡ sizeVerdict most n m search → v ≡ Taken → badNodes memoryLimits n ≡ false
+    → most ≡ memoryLimits → v ≡ sizeVerdict most n m search → v ≡ Taken
+    → (badNodes memoryLimits n ≡ false) × (badRoot n (search .root) ≡ false)
 unfolding sizeVerdict
-sizes-nodes most n m search v e q p = subst (λ (k : Limits). badNodes k n ≡ false) e (if-taken _ NodeCount 0 (head-taken _ _ (sym q ∙ p)))
+sizes-known most n m search v e q p =
+    let t1 = sym q ∙ p in (
+      subst (λ (k : Limits). badNodes k n ≡ false) e (if-taken _ NodeCount 0 (head-taken _ _ t1)),
+      if-taken _ BadRoot 0 (head-taken _ _ (rest-taken _ _ (rest-taken _ _ t1))),
+    )
 
 records-say : (g : Net) → recordVerdict g ≡ Taken → Recorded g
 unfolding recordVerdict

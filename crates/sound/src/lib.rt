@@ -3,12 +3,11 @@ ghost use mathlib.Core.Path.{_≡_};
 ghost use mathlib.Core.Bool.{false};
 ghost use lib.ListN.{length};
 ghost use Rattle.edition.specs.Limits.{memoryLimits};
-ghost use Rattle.edition.specs.declared.Why.the-variants.{NoRoute, NotShort};
-ghost use Rattle.rows.specs.First.{firstTo, refuseAt};
+ghost use Rattle.rows.specs.First.{firstTo};
 ghost use Rattle.network.specs.Network.{linksIn, linkIn, netOf};
-ghost use Rattle.network.specs.Records.{badNodes};
-ghost use Rattle.sound.specs.Sound.{noRoute, keepsShort, notShort, recordVerdict, netVerdict, checked, handedUp};
-ghost use Rattle.sound.specs.Work.{breaksBy, EndsIn};
+ghost use Rattle.network.specs.Records.{badNodes, badRoot};
+ghost use Rattle.sound.specs.Sound.{keepsShort, recordVerdict, netVerdict, checked, handedUp};
+ghost use Rattle.sound.specs.Work.{breaksBy, Passed, treeVerdict};
 use edition::Found;
 use edition::Memory;
 use edition::Refusal;
@@ -27,30 +26,6 @@ pub struct Sizes {
 pub enum Checked {
     Sound(Sizes),
     Unsound(Refusal),
-}
-
-// The lowest node without a route to the root.
-fn first_lost(links: &[u16], parents: &[u16], search: Search) -> Found
-    ensures { λ r.
-        let g = netOf (now (links .entry)) (now (parents .entry)) search in
-        ⌜ r ≡ firstTo (noRoute g) (length (now (parents .entry))) ⌝ }
-{
-    let mut found = Found::Nothing;
-    let mut u = 0;
-    while u < parents.len() {
-        found = rows::or_here(found, !tree::has_route(links, parents, search, u), u);
-        u += 1;
-    }
-    found
-}
-
-// Refusal 8: a node has no route to the root.
-pub fn check_routes(links: &[u16], parents: &[u16], search: Search) -> Verdict
-    ensures { λ r.
-        let g = netOf (now (links .entry)) (now (parents .entry)) search in
-        ⌜ r ≡ refuseAt (noRoute g) (length (now (parents .entry))) NoRoute ⌝ }
-{
-    rows::refused_at(Why::NoRoute, first_lost(links, parents, search))
 }
 
 // The two inequalities, of two distances and a length.
@@ -90,22 +65,26 @@ fn first_breaking(links: &[u16], row: &[u64]) -> Found
     found
 }
 
-// Refusal 9, of a network whose ends are nodes: a link in service breaks shortness.
-fn check_short(links: &[u16], parents: &[u16], search: Search) -> Verdict
-    requires { ⌜ (badNodes memoryLimits (length (now parents)) ≡ false)
-        × EndsIn (now links) (length (now parents)) ⌝ }
+// Refusals 8 and 9, by one walk over the nodes and one over the links.
+fn check_tree(links: &[u16], parents: &[u16], search: Search) -> Verdict
+    requires { let g = netOf (now links) (now parents) search in
+        ⌜ Passed g ⌝ }
     ensures { λ r.
         let g = netOf (now (links .entry)) (now (parents .entry)) search in
-        ⌜ r ≡ refuseAt (notShort g) (linksIn (now (links .entry))) NotShort ⌝ }
+        ⌜ r ≡ treeVerdict g ⌝ }
 {
     let mut row = [0u64; Memory::NODES];
-    tree::distances(links, parents, search, &mut row);
+    let routes = survey::distances(links, parents, search, &mut row);
+    let Verdict::Taken = routes else {
+        return routes;
+    };
     rows::refused_at(Why::NotShort, first_breaking(links, &row))
 }
 
 // Refusals 5 to 9, of the records.
 fn check_records(links: &[u16], parents: &[u16], search: Search) -> Verdict
-    requires { ⌜ badNodes memoryLimits (length (now parents)) ≡ false ⌝ }
+    requires { ⌜ (badNodes memoryLimits (length (now parents)) ≡ false)
+        × (badRoot (length (now parents)) (search .root) ≡ false) ⌝ }
     ensures { λ r.
         let g = netOf (now (links .entry)) (now (parents .entry)) search in
         ⌜ r ≡ recordVerdict g ⌝ }
@@ -122,11 +101,7 @@ fn check_records(links: &[u16], parents: &[u16], search: Search) -> Verdict
     let Verdict::Taken = named else {
         return named;
     };
-    let routes = check_routes(links, parents, search);
-    let Verdict::Taken = routes else {
-        return routes;
-    };
-    check_short(links, parents, search)
+    check_tree(links, parents, search)
 }
 
 // Refusals 1 to 9, in their order.

@@ -3,7 +3,7 @@ use Prim.Native.Nat.{ℕ}
 use mathlib.Core.List.{List}
 use Rattle.edition.specs.declared.Search.{Search}
 use Rattle.network.specs.Network.{netOf}
-use Rattle.tree.specs.Answers.{begun, stepped, rowVerdict, distanceRow, wayVerdict, routeAnswer, routeRow}
+use Rattle.tree.specs.Answers.{begun, stepped, roomVerdict, rowVerdict, distanceRow, wayVerdict, routeAnswer, routeRow}
 use Rattle.tree.specs.Answers.{meetAnswer, apartAnswer}
 use Rattle.tree.specs.Tree.{treeOf, hasRoute}
 use Rattle.tree.specs.declared.Climb.{Climb}
@@ -40,6 +40,10 @@ pub one-has-route :
     let g = netOf links parents search in
     One (hasRoute (treeOf g) u)
 one-has-route links parents search u = one _
+
+-- `tree::check_row`
+pub one-check-row : (n room : ℕ) → One (roomVerdict n room)
+one-check-row n room = one _
 
 -- `tree::distances`
 pub one-distances :

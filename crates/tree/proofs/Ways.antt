@@ -165,6 +165,15 @@ module _ (t : Tree) where
   unfolding dist wayUp
   dist-cut u x h e = ap (total (t .rise)) (route-cut u x h e) ∙ total-append (t .rise) (upTo x (route t u)) (route t x)
 
+  -- the distance of a node from that of its parent
+  pub dist-step : (u : ℕ) → Home u → eqb u (t .root) ≡ false → dist t u ≡ t .rise u + dist t (t .up u)
+  unfolding dist total
+  dist-step u h e = ap (total (t .rise)) (route-step u h e)
+
+  pub dist-root : (u : ℕ) → Home u → eqb u (t .root) ≡ true → t .rise u ≡ 0 → dist t u ≡ 0
+  unfolding dist total
+  dist-root u h e flat = omega (arith, ap (total (t .rise)) (route-root u h e))
+
   pub hops-cut : (u x : ℕ) → Home u → under t x u ≡ true → length (route t u) ≡ hops t x u + length (route t x)
   unfolding hops
   hops-cut u x h e = ap length (route-cut u x h e) ∙ length-append (upTo x (route t u)) (route t x)

@@ -122,7 +122,7 @@ fn to_root(links: &[u16], parents: &[u16], search: Search, u: usize) -> Climb
 }
 
 // Refusals 1 and 10 of a row of one number a node.
-fn check_row(n: usize, room: usize) -> Verdict
+pub fn check_row(n: usize, room: usize) -> Verdict
     ensures { λ r. ⌜ r ≡ roomVerdict n room ⌝ }
 {
     let nodes = network::check_nodes(Memory::limits(), n);

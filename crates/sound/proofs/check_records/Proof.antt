@@ -1,10 +1,11 @@
 -- `sound::check_records` meets its contract. Assumes nothing.
-use Rattle.sound.proofs.Shortness.{ends-known}
 use Rattle.network.specs.Network.{netOf}
 use mathlib.Core.Path.{_∙_, sym}
-use Rattle.rows.proofs.Refusing.{only-one}
+use Rattle.edition.specs.declared.Why.the-variants.{BadEnds, BadParent}
+use Rattle.rows.proofs.Refusing.{at-taken}
 use Rattle.rows.specs.First.{firstly}
 use Rattle.sound.specs.Sound.{recordVerdict}
+use Rattle.sound.specs.Work.{treeVerdict}
 use borrow.Author.Needs.{needs}
 use Rattle.sound.proofs.check_records.Statement.{statement}
 use Rattle.sound.proofs.check_records.Tie as tie
@@ -63,24 +64,29 @@ returns-3 c =
       c .enum-told6 .given .1,
     )
 
-check-routes-requires : tie.Need-check-routes-requires
-check-routes-requires c κs = search needs
-
-enum-told-7 : tie.Need-enum-told-7
-enum-told-7 c = search needs
-
-enum-told-8 : tie.Need-enum-told-8
-enum-told-8 c = search needs
+check-tree-requires : tie.Need-check-tree-requires
+unfolding netOf
+check-tree-requires c κs =
+    let check-parents = c .before .before .check-parents in
+    let enum-told = c .before .before .before .before .before .before .enum-told in
+    let check-ends = c .before .before .before .before .before .before .before .before .check-ends in
+    let pre = c .before .before .before .before .before .before .before .before .before .before .before .pre in
+    record {
+      nodes-ok = pre .0;
+      root-ok = pre .1;
+      ends-ok = at-taken _ _ BadEnds (sym (check-ends .ensures) ∙ enum-told .given .1);
+      parents-ok = at-taken _ _ BadParent (sym (check-parents .ensures) ∙ c .enum-told5 .given .1);
+    }
 
 returns-4 : tie.Need-returns-4
-unfolding recordVerdict firstly netOf
+unfolding recordVerdict treeVerdict firstly netOf
 returns-4 c =
-    let enum-told5 = c .before .before .before .enum-told5 in
-    let check-parents = c .before .before .before .before .before .check-parents in
-    let enum-told3 = c .before .before .before .before .before .before .enum-told3 in
-    let check-marks = c .before .before .before .before .before .before .before .before .check-marks in
-    let enum-told = c .before .before .before .before .before .before .before .before .before .enum-told in
-    let check-ends = c .before .before .before .before .before .before .before .before .before .before .before .check-ends in
+    let enum-told5 = c .before .enum-told5 in
+    let check-parents = c .before .before .before .check-parents in
+    let enum-told3 = c .before .before .before .before .enum-told3 in
+    let check-marks = c .before .before .before .before .before .before .check-marks in
+    let enum-told = c .before .before .before .before .before .before .before .enum-told in
+    let check-ends = c .before .before .before .before .before .before .before .before .before .check-ends in
     rw (
       ← check-ends .ensures,
       enum-told .given .1,
@@ -88,40 +94,7 @@ returns-4 c =
       enum-told3 .given .1,
       ← check-parents .ensures,
       enum-told5 .given .1,
-      ←
-          c .before .before .check-routes .ensures,
-      c .enum-told8 .given .1,
-    )
-
-check-short-requires : tie.Need-check-short-requires
-check-short-requires c κs =
-    let enum-told = c .before .before .before .before .before .before .before .before .before .enum-told in
-    let check-ends = c .before .before .before .before .before .before .before .before .before .before .before .check-ends in
-    let args = c .before .before .before .before .before .before .before .before .before .before .before .before .before .before .args in
-    let pre = c .before .before .before .before .before .before .before .before .before .before .before .before .before .before .pre in
-    (pre, ends-known (args .links .now) (args .parents .now) (args .search) _ (check-ends .ensures) (enum-told .given .1))
-
-returns-5 : tie.Need-returns-5
-unfolding recordVerdict firstly netOf
-returns-5 c =
-    let check-routes = c .before .before .before .check-routes in
-    let enum-told5 = c .before .before .before .before .enum-told5 in
-    let check-parents = c .before .before .before .before .before .before .check-parents in
-    let enum-told3 = c .before .before .before .before .before .before .before .enum-told3 in
-    let check-marks = c .before .before .before .before .before .before .before .before .before .check-marks in
-    let enum-told = c .before .before .before .before .before .before .before .before .before .before .enum-told in
-    let check-ends = c .before .before .before .before .before .before .before .before .before .before .before .before .check-ends in
-    rw (
-      ← check-ends .ensures,
-      enum-told .given .1,
-      ← check-marks .ensures,
-      enum-told3 .given .1,
-      ← check-parents .ensures,
-      enum-told5 .given .1,
-      ←
-          check-routes .ensures,
-      c .before .enum-told7 .given .1,
-    ) (c .check-short .ensures ∙ sym (only-one _))
+    ) (c .check-tree .ensures)
 
 pub check-records-spec : {M : Type 1} → statement M
 check-records-spec =
@@ -139,9 +112,5 @@ check-records-spec =
     enum-told-5
     enum-told-6
     returns-3
-    check-routes-requires
-    enum-told-7
-    enum-told-8
-    returns-4
-    check-short-requires
-    returns-5)
+    check-tree-requires
+    returns-4)

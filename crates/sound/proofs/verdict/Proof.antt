@@ -1,6 +1,6 @@
 -- `sound::verdict` meets its contract. Assumes nothing.
 use Rattle.rows.proofs.Refusing.{only-one, head-passes}
-use Rattle.sound.proofs.Sounds.{sizes-nodes}
+use Rattle.sound.proofs.Sounds.{sizes-known}
 use Rattle.network.specs.Network.{netOf}
 use mathlib.Core.Path.{_∙_, sym}
 use Rattle.rows.specs.First.{firstly}
@@ -34,7 +34,7 @@ returns c =
 check-records-requires : tie.Need-check-records-requires
 check-records-requires c κs =
     let limits = c .before .before .before .before .limits in
-    sizes-nodes _ _ _ _ _ (limits .ensures) (c .before .before .check-sizes .ensures) (c .enum-told .given .1)
+    sizes-known _ _ _ _ _ (limits .ensures) (c .before .before .check-sizes .ensures) (c .enum-told .given .1)
 
 returns-2 : tie.Need-returns-2
 unfolding netVerdict netOf

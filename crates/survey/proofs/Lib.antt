@@ -1,0 +1,10 @@
+pub mod Free
+pub mod Placing
+pub mod Settling
+pub mod Begun
+pub mod Whole
+pub mod Down
+pub mod Nexts
+pub mod Routed
+pub mod Surveyed
+pub mod Outcomes
