@@ -6,7 +6,7 @@
 #define PAINTED_LINKS const uint16_t *links, size_t links_length
 #define PAINTED_PARENTS const uint16_t *parents, size_t parents_length
 #define PAINTED_NETWORK PAINTED_LINKS, PAINTED_PARENTS, uint16_t root, uint16_t depth
-#define PAINTED_BLOCK uint8_t kind, uint16_t number, uint16_t used
+#define PAINTED_BLOCK uint16_t kind, uint16_t number, uint16_t used
 #define PAINTED_CHANGE uint16_t link, uint16_t mark, uint16_t length
 
 uint64_t painted_wide_at(const uint64_t *row, size_t row_length, size_t i);
@@ -19,7 +19,7 @@ uint64_t painted_check_parents(PAINTED_NETWORK);
 
 uint64_t painted_check_block(PAINTED_BLOCK, const uint8_t *bytes, size_t bytes_length);
 uint64_t painted_payload(PAINTED_BLOCK, const uint8_t *bytes, size_t bytes_length);
-uint64_t painted_seal(PAINTED_BLOCK, uint8_t *bytes, size_t bytes_length);
+uint64_t painted_seal(uint8_t kind, uint16_t number, uint16_t used, uint8_t *bytes, size_t bytes_length);
 
 uint64_t painted_up(PAINTED_NETWORK, size_t u);
 uint64_t painted_rise(PAINTED_NETWORK, size_t u);

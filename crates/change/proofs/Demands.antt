@@ -20,7 +20,7 @@ use Rattle.rows.specs.Count.{rowsTo}
 use Rattle.rows.specs.First.{refuseIf, firstly}
 use Rattle.rows.specs.Lists.{has}
 use Rattle.rows.proofs.Numbered.{Gives, if-gives, passed}
-use Rattle.rows.proofs.Refusing.{head-taken, rest-taken, both-taken, none-left, head-passes, if-taken, only-one}
+use Rattle.rows.proofs.Refusing.{head-taken, rest-taken, both-taken, none-left, head-passes, if-taken, if-passes, only-one}
 use Rattle.rows.proofs.Tests.{clash}
 use Rattle.entries.specs.Row.{entryRow, entriesIn, standing, pastEntries}
 use Rattle.entries.proofs.Keeping.{rows-past}
@@ -157,7 +157,7 @@ module _ (links parents : List ℕ) (search : Search) (entries : List ℕ) (c : 
       (r : Refusal)
       → changeVerdict net entries c ≡ Refused r → numberOf (r .why) ≡ 13
       → (before13 ≡ Taken) × (netVerdict changedNet ≡ refused NotShort (c .link))
-  unfolding changeVerdict numberOf has refuseIf
+  unfolding changeVerdict numberOf has
   thirteen-nine r h thirteen =
       let v10 = passed oneToTen _ _ r (table-gives net entries) (rw thirteen) h in
       let v11 = passed (11 ∷ []) _ _ r (if-gives (11 ∷ []) _ LinkMissing 0 refl) (rw thirteen) (v10 .1) in
@@ -172,4 +172,4 @@ module _ (links parents : List ℕ) (search : Search) (entries : List ℕ) (c : 
           → firstly (refuseIf (breaks net c) BreaksShort (c .link) ∷ []) ≡ Refused r → (b : Bool) → breaks net c ≡ b
           → netVerdict changedNet ≡ refused NotShort (c .link)
       go t q true e = broken-refused links parents search c (asked t) e
-      go t q false e = taken-not (sym (only-one _ ∙ rw e) ∙ q)
+      go t q false e = taken-not (sym (only-one _ ∙ if-passes _ BreaksShort (c .link) e) ∙ q)

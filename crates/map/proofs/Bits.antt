@@ -17,6 +17,7 @@ use Rattle.rows.specs.First.{firstTo, foundOr}
 use Rattle.rows.proofs.Best.{Lowest, nowhere, here, first-is}
 use Rattle.rows.proofs.Counting.{sum-cong}
 use Rattle.rows.proofs.Filling.{filled-at}
+use Rattle.rows.proofs.Records.{rows-length}
 use Rattle.rows.proofs.Tests.{clash, and-left}
 use Rattle.network.specs.Network.{Net}
 use Rattle.map.specs.Map.{unprotected, word, mapOf, countUnprotected, lowest}

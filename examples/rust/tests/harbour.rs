@@ -143,16 +143,16 @@ fn a_short_row_is_refused() {
     assert!(file.iter().all(|&byte| byte == 7));
 }
 
-/// The wrappers lend rows that are long enough, so this asks the library itself. It looks at the row of values first: the
-/// file is empty, which is 20.
+/// The wrappers lend rows that are long enough, so this asks the library itself. A row too short for the values is 10 in its
+/// place in the order for a file: a file that is empty is 20 all the same.
 #[test]
-fn a_short_row_of_values_is_refused_first() {
+fn a_short_row_of_values_is_refused_in_its_place() {
     let (mut links, mut parents, mut entries) = ([7; 28], [7; 5], [7; 35]);
-    let mut ask = |header: &mut [u64]| {
+    let mut ask = |file: &[u8], header: &mut [u64]| {
         said(unsafe {
             raw::doeragyeol_read(
-                [].as_ptr(),
-                0,
+                file.as_ptr(),
+                file.len(),
                 links.as_mut_ptr(),
                 links.len(),
                 parents.as_mut_ptr(),
@@ -165,8 +165,9 @@ fn a_short_row_of_values_is_refused_first() {
         })
     };
     let mut header = [7; 4];
-    assert_eq!(ask(&mut header[..3]), refused(10, 0));
-    assert_eq!(ask(&mut header), refused(20, 0));
+    assert_eq!(ask(&FILE[..], &mut header[..3]), refused(10, 0));
+    assert_eq!(ask(&[], &mut header[..3]), refused(20, 0));
+    assert_eq!(ask(&[], &mut header), refused(20, 0));
     assert_eq!(header, [7; 4]);
     assert_eq!((links, parents, entries), ([7; 28], [7; 5], [7; 35]));
 }
