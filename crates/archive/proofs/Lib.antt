@@ -20,3 +20,4 @@ pub mod Depth
 pub mod WrittenAccepted
 pub mod Accepted
 pub mod Outcomes
+pub mod Numbers

@@ -7,3 +7,4 @@ pub mod Fillers
 pub mod Sealing
 pub mod Whole
 pub mod Outcomes
+pub mod Numbers

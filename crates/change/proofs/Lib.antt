@@ -9,3 +9,4 @@ pub mod Setting
 pub mod Staying
 pub mod Demands
 pub mod Outcomes
+pub mod Numbers

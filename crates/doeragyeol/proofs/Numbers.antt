@@ -12,30 +12,31 @@ use Rattle.sound.specs.Sound.{netVerdict}
 use Rattle.sound.proofs.Numbers.{oneToNine, net-gives}
 use Rattle.table.proofs.Numbers.{oneToTen}
 use Rattle.map.specs.Map.{mapVerdict}
+use Rattle.map.proofs.Numbers.{map-gives}
 use Rattle.archive.specs.Writer.{writeVerdict}
+use Rattle.archive.specs.Reader.{Rows}
+use Rattle.archive.proofs.Numbers.{ofFiles, write-gives, read-gives}
 use Rattle.doeragyeol.specs.Word.{thenRoom}
-use Rattle.doeragyeol.specs.Calls.{checkSaid, mapSaid, writeSaid}
+use Rattle.doeragyeol.specs.Calls.{checkSaid, mapSaid, writeSaid, readSaid}
 
 then-gives : (v : Verdict) (n : ℕ) (row : List ℕ) → Gives oneToTen v → Gives oneToTen (thenRoom v n row)
 unfolding thenRoom numberOf has
 then-gives v n row h = first-gives oneToTen _ _ h (first-gives oneToTen _ _ (if-gives oneToTen _ NoRoom 0 refl) (none-gives oneToTen))
 
-network-gives : (g : Net) → Gives oneToTen (netVerdict g)
-network-gives g = gives-left oneToNine (10 ∷ []) _ (net-gives g)
-
 -- the check, the map and the writer: no number but 1 to 10
 pub check-said-gives : (g : Net) (row : List ℕ) → Gives oneToTen (checkSaid g row)
 unfolding checkSaid
-check-said-gives g row = then-gives (netVerdict g) 2 row (network-gives g)
+check-said-gives g row = then-gives (netVerdict g) 2 row (gives-left oneToNine (10 ∷ []) _ (net-gives g))
 
 pub map-said-gives : (g : Net) (words row : List ℕ) → Gives oneToTen (mapSaid g words row)
-unfolding mapSaid mapVerdict numberOf has
-map-said-gives g words row =
-    then-gives (mapVerdict g words) 2 row
-    (first-gives oneToTen _ _ (network-gives g) (first-gives oneToTen _ _ (if-gives oneToTen _ NoRoom 0 refl) (none-gives oneToTen)))
+unfolding mapSaid
+map-said-gives g words row = then-gives (mapVerdict g words) 2 row (map-gives g words)
 
 pub write-said-gives : (g : Net) (file row : List ℕ) → Gives oneToTen (writeSaid g file row)
-unfolding writeSaid writeVerdict numberOf has
-write-said-gives g file row =
-    then-gives (writeVerdict g file) 1 row
-    (first-gives oneToTen _ _ (network-gives g) (first-gives oneToTen _ _ (if-gives oneToTen _ NoRoom 0 refl) (none-gives oneToTen)))
+unfolding writeSaid
+write-said-gives g file row = then-gives (writeVerdict g file) 1 row (write-gives g file)
+
+-- the reader: no number but 20, 21, 22, 1 to 10 and 24
+pub read-said-gives : (file : List ℕ) (rows : Rows) (row : List ℕ) → Gives ofFiles (readSaid file rows row)
+unfolding readSaid
+read-said-gives file rows row = read-gives file _

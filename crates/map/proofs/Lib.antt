@@ -3,3 +3,4 @@ pub mod Whole
 pub mod Wording
 pub mod Bits
 pub mod Outcomes
+pub mod Numbers

@@ -17,7 +17,7 @@ use Rattle.edition.specs.Limits.{noNode, mapWords, wordBits}
 use Rattle.rows.specs.Count.{sumTo, onlyIf}
 use Rattle.rows.specs.First.{firstTo, foundOr}
 use Rattle.rows.proofs.Best.{isAt, Lowest, nowhere, here, first-is, first-unique}
-use Rattle.rows.proofs.Counting.{sum-cong}
+use Rattle.rows.proofs.Counting.{sum-cong, sum-none}
 use Rattle.rows.proofs.Filling.{filled-at}
 use Rattle.rows.proofs.Tests.{clash}
 use Rattle.map.specs.Work.{wordBy, wordsBy, onesIn, someIn, lowestAt, lowestIn}
@@ -69,11 +69,6 @@ sum-words f (suc k) =
     let next : k * wordBits + wordBits ≡ suc k * wordBits = omega arith in
     ap (λ s. s + sumTo (λ j. f (k * wordBits + j)) wordBits) (sum-words f k)
     ∙ (sym (sum-split f (k * wordBits) wordBits) ∙ ap (sumTo f) next)
-
-sum-none : (f : ℕ → ℕ) (k : ℕ) → ((j : ℕ) → j < k → f j ≡ 0) → sumTo f k ≡ 0
-unfolding sumTo
-sum-none f zero h = refl
-sum-none f (suc k) h = omega (arith, sum-none f k (λ j l. h j (omega arith)), h k (omega arith))
 
 -- tests that fail from n on
 module _ (p : ℕ → Bool) (n : ℕ) (few : n ≤ mapWords * wordBits) (past : (x : ℕ) → n ≤ x → p x ≡ false) where
