@@ -1,5 +1,6 @@
 // The table by its definition: for each node every link that crosses it, and each cost added up or compared over all nodes
 // below. All tree distances are tabled first.
+#define TABLE_ONLY
 #include "common.h"
 
 // The tree in tables: nodes with parents first, and for each node its parent, its hops and d(u); then t(u,z).

@@ -1,10 +1,12 @@
 // A network with its tree in memory, and the form in which the programs here read one.
 //
-// Input: 16-bit words, high byte first: n, m, root, depth, times; n parents; m links of four words, two ends, length, mark.
+// Input: 16-bit words, high byte first: n, m, root, depth, times; n parents; m links of four words, two ends, length, mark; the
+// job: 0 the table, 1 the change of a link, 2 the write of a file, 3 the read of one.
 #include <stdint.h>
 #include <stdio.h>
 
-enum { NODES = 512, LINKS = 2048, DEPTH = 510, ENTRY = 7, MARK = 65535, HEAD = 5, WORDS = HEAD + NODES + 4 * LINKS };
+enum { NODES = 512, LINKS = 2048, DEPTH = 510, ENTRY = 7, MARK = 65535, HEAD = 5, WORDS = HEAD + NODES + 4 * LINKS + 1 };
+enum { TABLE_JOB, CHANGE_JOB, WRITE_JOB, READ_JOB };
 
 struct link {
     uint16_t first, second, length, mark;
@@ -23,7 +25,7 @@ static uint16_t word(const uint8_t *bytes, size_t i)
 }
 
 // Reads a file to its end. Answers 0 where it is not one whole network within the limits.
-static int read_network(FILE *file, struct network *net, size_t *times)
+static int read_network(FILE *file, struct network *net, size_t *times, size_t *job)
 {
     static uint8_t bytes[2 * WORDS + 1];
     size_t got = fread(bytes, 1, sizeof bytes, file);
@@ -34,12 +36,13 @@ static int read_network(FILE *file, struct network *net, size_t *times)
     net->root = word(bytes, 2);
     net->depth = word(bytes, 3);
     *times = word(bytes, 4);
-    if (net->n > NODES || net->m > LINKS || got != 2 * (HEAD + net->n + 4 * net->m))
+    if (net->n > NODES || net->m > LINKS || got != 2 * (HEAD + net->n + 4 * net->m + 1))
         return 0;
     size_t at = HEAD;
     for (size_t u = 0; u < net->n; u++)
         net->parents[u] = word(bytes, at++);
     for (size_t e = 0; e < net->m; e++, at += 4)
         net->links[e] = (struct link){word(bytes, at), word(bytes, at + 1), word(bytes, at + 2), word(bytes, at + 3)};
-    return 1;
+    *job = word(bytes, at);
+    return *job <= READ_JOB;
 }

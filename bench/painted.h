@@ -39,6 +39,8 @@ uint64_t painted_put_entry(uint8_t *bytes, size_t bytes_length, size_t at, uint1
     uint64_t cost);
 
 uint64_t painted_survey(PAINTED_NETWORK, uint64_t *row, size_t row_length);
+uint64_t painted_fill(PAINTED_NETWORK, uint64_t *survey, size_t survey_length);
+uint64_t painted_survey_network(PAINTED_NETWORK, uint64_t *survey, size_t survey_length);
 uint64_t painted_check_network(PAINTED_NETWORK);
 
 uint64_t painted_check_table(PAINTED_NETWORK, const uint64_t *entries, size_t entries_length);

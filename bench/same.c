@@ -1,6 +1,15 @@
-// The table by the algorithm of crates/table: the same checks, loops and rows. What C leaves out it leaves out: no read is
-// tested, rows are filled only as far as there are nodes, and an entry is changed in place.
+// The table, a change, the write and the read of a file by the algorithms of the crates: the same checks, the same survey, the
+// same climbs. What C leaves out it leaves out: no read is tested, rows are filled only as far as there are nodes, and an entry
+// is changed in place.
 #include "common.h"
+
+// What stands in the inner loop is put there by the compiler, and not called.
+#define HOT static inline __attribute__((always_inline))
+
+// What is known of a node (crates/survey).
+struct known {
+    uint64_t up, near, count, base, turn, deep, beside;
+};
 
 static uint64_t larger(uint64_t a, uint64_t b)
 {
@@ -12,44 +21,18 @@ static size_t other_end(struct link l, size_t u)
     return l.first == u ? l.second : l.first;
 }
 
-// The parent of u; the root is its own.
-static size_t up(const struct network *net, size_t u)
+// Refusals 1 to 7.
+static int good_records(const struct network *net)
 {
-    if (u == net->root)
-        return u;
-    return other_end(net->links[net->parents[u]], u);
-}
-
-// Refusals 1 to 4.
-static int good_sizes(const struct network *net)
-{
-    return net->n != 0 && net->n <= NODES && net->m <= LINKS && net->root < net->n
-        && (net->depth <= DEPTH || net->depth == MARK);
-}
-
-// Refusal 5.
-static int good_ends(const struct network *net)
-{
+    if (net->n == 0 || net->n > NODES || net->m > LINKS || net->root >= net->n || (net->depth > DEPTH && net->depth != MARK))
+        return 0;
+    int bad = 0;
     for (size_t e = 0; e < net->m; e++) {
         struct link l = net->links[e];
-        if (net->n <= l.first || net->n <= l.second || l.first == l.second)
-            return 0;
+        bad |= (net->n <= l.first) | (net->n <= l.second) | (l.first == l.second) | (l.mark > 1);
     }
-    return 1;
-}
-
-// Refusal 6.
-static int good_marks(const struct network *net)
-{
-    for (size_t e = 0; e < net->m; e++)
-        if (net->links[e].mark > 1)
-            return 0;
-    return 1;
-}
-
-// Refusal 7.
-static int good_parents(const struct network *net)
-{
+    if (bad)
+        return 0;
     for (size_t u = 0; u < net->n; u++) {
         size_t e = net->parents[u];
         if (u == net->root) {
@@ -66,184 +49,128 @@ static int good_parents(const struct network *net)
     return 1;
 }
 
-// The nodes from u up to the first that has a seat, written into a row: how many they are. n where u has no route.
-static size_t climb_free(const struct network *net, const uint16_t *seats, uint16_t *path, size_t u)
+// Refusal 8, and the nodes in an order with every parent before its children: each climbs to the first that has a seat, and
+// those passed get their places from the last back.
+static int in_order(const struct network *net, struct known *survey, uint16_t *order)
 {
-    size_t k = 0;
-    for (; k < net->n && seats[u] == 0; k++) {
-        path[k] = (uint16_t)u;
-        u = up(net, u);
-    }
-    return k;
-}
-
-// Refusal 8, and the nodes in an order with every parent before its children.
-static int in_order(const struct network *net, uint16_t *order)
-{
-    uint16_t seats[NODES] = {0}, path[NODES];
-    size_t m = 1;
+    uint16_t seats[NODES], path[NODES];
+    size_t n = net->n, m = 1;
+    memset(seats, 0, n * sizeof *seats);
+    for (size_t u = 0; u < n; u++)
+        survey[u].up = u == net->root ? u : other_end(net->links[net->parents[u]], u);
     order[0] = (uint16_t)net->root;
     seats[net->root] = 1;
-    for (size_t u = 0; u < net->n; u++) {
-        size_t k = climb_free(net, seats, path, u);
-        if (k == net->n)
+    for (size_t u = 0; u < n; u++) {
+        size_t k = 0, v = u;
+        for (; k < n && seats[v] == 0; v = survey[v].up)
+            path[k++] = (uint16_t)v;
+        if (k == n)
             return 0;
         while (k > 0) {
-            uint16_t v = path[--k];
-            order[m] = v;
-            seats[v] = (uint16_t)++m;
+            order[m] = path[--k];
+            seats[path[k]] = (uint16_t)++m;
         }
     }
     return 1;
 }
 
-// d(u) of every node, in that order.
-static void walk(const struct network *net, const uint16_t *order, uint64_t *row)
+// What is known of every node, in that order and back.
+static void fill(const struct network *net, struct known *survey, const uint16_t *order)
 {
-    for (size_t i = 0; i < net->n; i++) {
-        size_t v = order[i];
-        row[v] = v == net->root ? 0 : row[up(net, v)] + net->links[net->parents[v]].length;
+    size_t n = net->n;
+    for (size_t i = 0; i < n; i++) {
+        struct known *v = survey + order[i];
+        v->near = i == 0 ? 0 : survey[v->up].near + net->links[net->parents[order[i]]].length;
+        v->count = 1;
+        v->base = v->deep = v->near;
+        v->turn = v->beside = 0;
     }
-}
-
-// d(u) of every node, by one climb a node.
-static void distances(const struct network *net, uint64_t *row)
-{
-    for (size_t u = 0; u < net->n; u++) {
-        uint64_t dist = 0;
-        size_t c = u;
-        for (size_t k = 0; k < net->n && c != net->root; k++) {
-            dist += net->links[net->parents[c]].length;
-            c = up(net, c);
+    for (size_t i = n - 1; i > 0; i--) {
+        const struct known *v = survey + order[i];
+        struct known *p = survey + v->up;
+        p->count += v->count;
+        p->base += v->base;
+        if (p->deep < v->deep) {
+            p->beside = p->deep;
+            p->deep = v->deep;
+        } else {
+            p->beside = larger(p->beside, v->deep);
         }
-        row[u] = dist;
+    }
+    for (size_t i = n - 1; i > 0; i--) {
+        struct known *v = survey + order[i];
+        const struct known *p = survey + v->up;
+        v->beside = v->deep == p->deep ? p->beside : p->deep;
+    }
+    survey[order[0]].beside = 0;
+    for (size_t i = 1; i < n; i++) {
+        struct known *v = survey + order[i];
+        const struct known *p = survey + v->up;
+        v->turn = p->turn + 2 * v->count * (v->near - p->near);
+        v->base = v->base + v->turn - 2 * v->count * v->near;
     }
 }
 
-// Refusals 8 and 9.
-static int good_tree(const struct network *net)
+static int keeps_short(uint64_t p, uint64_t q, uint64_t w)
+{
+    return (p < q ? q - p : p - q) <= w;
+}
+
+// Refusals 1 to 9, and the survey.
+static int survey_network(const struct network *net, struct known *survey)
 {
     uint16_t order[NODES];
-    uint64_t row[NODES];
-    if (!in_order(net, order))
+    if (!good_records(net) || !in_order(net, survey, order))
         return 0;
-    walk(net, order, row);
+    fill(net, survey, order);
     for (size_t e = 0; e < net->m; e++) {
         struct link l = net->links[e];
-        uint64_t p = row[l.first], q = row[l.second];
-        if (l.mark == 1 && (p < q ? q - p : p - q) > l.length)
+        if (l.mark == 1 && !keeps_short(survey[l.first].near, survey[l.second].near, l.length))
             return 0;
     }
     return 1;
 }
 
-static void fill(uint64_t *row, size_t n, uint64_t number)
-{
-    for (size_t i = 0; i < n; i++)
-        row[i] = number;
-}
-
-// Count, weight and depth of every node's subtree, by one climb a node. The rows begin with zeros.
-static void fold_all(const struct network *net, const uint64_t *near, uint64_t *count, uint64_t *weight, uint64_t *deep)
-{
-    for (size_t u = 0; u < net->n; u++) {
-        uint64_t v = near[u];
-        size_t c = u;
-        for (;;) {
-            count[c]++;
-            weight[c] += v;
-            deep[c] = larger(deep[c], v);
-            if (c == net->root)
-                break;
-            c = up(net, c);
-        }
-    }
-}
-
-// The two numbers of every node by which a sum is known.
-static void fill_bases(const struct network *net, const uint64_t *near, const uint64_t *count, const uint64_t *weight,
-    uint64_t *base, uint64_t *turn)
-{
-    for (size_t x = 0; x < net->n; x++) {
-        uint64_t stem = 0;
-        size_t c = x;
-        while (c != net->root) {
-            size_t p = up(net, c);
-            stem += (count[p] - count[c]) * near[p];
-            c = p;
-        }
-        base[x] = weight[x] + 2 * stem;
-        turn[x] = 2 * (count[x] * near[x] + stem);
-    }
-}
-
-// One node of a pass: it is raised to the largest so far at its parent, and the parent to what is deepest below it.
-static void raise_at(const struct network *net, const uint64_t *deep, uint64_t *most, uint64_t *out, size_t c)
-{
-    if (c == net->root)
-        return;
-    size_t p = up(net, c);
-    out[c] = larger(out[c], most[p]);
-    most[p] = larger(most[p], deep[c]);
-}
-
-// What is beside every node but the root, by a pass from either side. The row begins with zeros.
-static void fill_asides(const struct network *net, const uint64_t *deep, uint64_t *out)
-{
-    uint64_t first[NODES], second[NODES];
-    distances(net, first);
-    fill(second, net->n, 0);
-    for (size_t c = 0; c < net->n; c++)
-        raise_at(net, deep, first, out, c);
-    for (size_t c = net->n; c-- > 0;)
-        raise_at(net, deep, second, out, c);
-}
-
-// The rows that a search works by.
-struct rows {
-    uint64_t near[NODES], count[NODES], weight[NODES], deep[NODES], base[NODES], turn[NODES], aside[NODES], marks[NODES];
-};
-
-// A climb from the lower end of a link, with the largest tree distance from there to a node below where it is.
+// A climb from the lower end of a link: what is known of that end, and the largest tree distance from it to a node below where
+// the climb is.
 struct side {
-    size_t node, hops, from;
-    uint64_t reach;
+    size_t node, hops;
+    uint64_t near, turn, reach;
 };
 
-static struct side begin_side(const struct rows *rows, size_t z)
+HOT struct side begin_side(const struct known *survey, size_t z)
 {
-    return (struct side){z, 0, z, rows->deep[z] - rows->near[z]};
+    return (struct side){z, 0, survey[z].near, survey[z].turn, survey[z].deep - survey[z].near};
 }
 
-static struct side step_side(const struct network *net, const struct rows *rows, struct side s)
+HOT struct side step_side(const struct known *survey, struct side s)
 {
-    size_t p = up(net, s.node);
-    uint64_t d = rows->near[p];
-    uint64_t way = (rows->near[s.from] - d) + (rows->aside[s.node] - d);
-    return (struct side){p, s.hops + 1, s.from, larger(s.reach, way)};
+    const struct known *x = survey + s.node, *p = survey + x->up;
+    uint64_t way = (s.near - p->near) + (x->beside - p->near);
+    return (struct side){x->up, s.hops + 1, s.near, s.turn, larger(s.reach, way)};
 }
 
 // The better of a swap link, where there is one yet, and a candidate, kept in the entry.
-static void keep(uint64_t *link, uint64_t *cost, int had, uint64_t e, uint64_t price)
+HOT void keep(uint64_t *link, uint64_t *cost, int had, uint64_t e, uint64_t price)
 {
-    if (!had || price < *cost || (price == *cost && e < *link)) {
+    if (!had || price < *cost) {
         *link = e;
         *cost = price;
     }
 }
 
-// Offers link e to the node where the climb is, where that node is marked.
-static void offer_at(const struct network *net, const struct rows *rows, uint64_t *entries, struct side s, size_t e,
-    uint64_t k)
+// Offers link e to the node where the climb is, where that node is asked for.
+HOT void offer_at(const struct network *net, const struct known *survey, const uint16_t *anchors, uint64_t *entries,
+    struct side s, size_t e, uint64_t k)
 {
-    size_t x = s.node;
-    if (rows->marks[x] == 0)
+    if (anchors[s.node] != s.node + 1)
         return;
-    uint64_t sum = rows->base[x] + rows->count[x] * k - rows->turn[s.from];
-    uint64_t incr = k - 2 * rows->near[x];
-    uint64_t max = s.reach + (k - rows->near[s.from]);
-    uint64_t *entry = entries + x * ENTRY;
+    const struct known *x = survey + s.node;
+    uint64_t sum = x->base + x->count * k - s.turn, incr = k - 2 * x->near, max = s.reach + (k - s.near);
+    uint64_t *entry = entries + s.node * ENTRY;
     int had = entry[0] == SWAP;
+    if (had && sum >= entry[4] && incr >= entry[5] && max >= entry[6])
+        return;
     if (net->depth != MARK && s.hops > net->depth) {
         if (!had)
             entry[0] = NONE;
@@ -255,44 +182,255 @@ static void offer_at(const struct network *net, const struct rows *rows, uint64_
     keep(&entry[3], &entry[6], had, e, max);
 }
 
-// Offers link e to every marked node that it crosses, by a climb from each end up to where the routes meet.
-static void offer_link(const struct network *net, const struct rows *rows, uint64_t *entries, size_t e)
+// Offers link e to every node asked for that it crosses, by a climb from each end up to where the routes meet.
+static void offer_link(const struct network *net, const struct known *survey, const uint16_t *anchors, uint64_t *entries, size_t e)
 {
     struct link l = net->links[e];
-    if (l.mark != 1 || net->parents[l.first] == e || net->parents[l.second] == e)
+    if (l.mark != 1 || net->parents[l.first] == e || net->parents[l.second] == e || anchors[l.first] == anchors[l.second])
         return;
-    uint64_t k = rows->near[l.first] + l.length + rows->near[l.second];
-    struct side a = begin_side(rows, l.first), b = begin_side(rows, l.second);
+    uint64_t k = survey[l.first].near + l.length + survey[l.second].near;
+    struct side a = begin_side(survey, l.first), b = begin_side(survey, l.second);
     while (a.node != b.node) {
-        if (rows->count[a.node] <= rows->count[b.node]) {
-            offer_at(net, rows, entries, a, e, k);
-            a = step_side(net, rows, a);
+        if (survey[b.node].count < survey[a.node].count) {
+            offer_at(net, survey, anchors, entries, b, e, k);
+            b = step_side(survey, b);
         } else {
-            offer_at(net, rows, entries, b, e, k);
-            b = step_side(net, rows, b);
+            offer_at(net, survey, anchors, entries, a, e, k);
+            a = step_side(survey, a);
         }
     }
 }
 
-static int table(const struct network *net, uint64_t *entries)
+// The entries of the nodes that are their own anchors, afresh.
+static void refresh(const struct network *net, const struct known *survey, const uint16_t *anchors, uint64_t *entries)
 {
-    if (!good_sizes(net) || !good_ends(net) || !good_marks(net) || !good_parents(net) || !good_tree(net))
-        return 0;
-    struct rows rows;
-    fill(rows.marks, net->n, 1);
-    fill(rows.count, net->n, 0);
-    fill(rows.weight, net->n, 0);
-    fill(rows.deep, net->n, 0);
-    fill(rows.aside, net->n, 0);
-    distances(net, rows.near);
-    fold_all(net, rows.near, rows.count, rows.weight, rows.deep);
-    fill_bases(net, rows.near, rows.count, rows.weight, rows.base, rows.turn);
-    fill_asides(net, rows.deep, rows.aside);
     for (size_t x = 0; x < net->n; x++)
-        if (rows.marks[x] != 0)
+        if (anchors[x] == x + 1)
             memcpy(entries + x * ENTRY, (uint64_t[ENTRY]){x == net->root ? ROOT : BRIDGE, MARK, MARK, MARK},
                 ENTRY * sizeof *entries);
     for (size_t e = 0; e < net->m; e++)
-        offer_link(net, &rows, entries, e);
+        offer_link(net, survey, anchors, entries, e);
+}
+
+static int table(const struct network *net, uint64_t *entries)
+{
+    struct known survey[NODES];
+    uint16_t anchors[NODES];
+    if (!survey_network(net, survey))
+        return 0;
+    for (size_t x = 0; x < net->n; x++)
+        anchors[x] = (uint16_t)(x + 1);
+    refresh(net, survey, anchors, entries);
+    return 1;
+}
+
+// The nodes on the route of u are asked for where they were not, and no longer where they were.
+static void flip_up(const struct known *survey, size_t root, uint8_t *asked, size_t u)
+{
+    for (; u != root; u = survey[u].up)
+        asked[u] ^= 1;
+    asked[u] ^= 1;
+}
+
+// The anchor of every node: one more than the first node of its route that is asked for, or MARK.
+static void fill_anchors(const struct known *survey, size_t n, size_t root, const uint8_t *asked, uint16_t *anchors)
+{
+    for (size_t x = 0; x < n; x++)
+        anchors[x] = asked[x] ? (uint16_t)(x + 1) : x == root ? MARK : 0;
+    for (size_t u = 0; u < n; u++) {
+        size_t c = u;
+        while (anchors[c] == 0)
+            c = survey[c].up;
+        for (size_t v = u; anchors[v] == 0; v = survey[v].up)
+            anchors[v] = anchors[c];
+    }
+}
+
+static int change(struct network *net, uint64_t *entries, size_t e, unsigned mark, unsigned length)
+{
+    struct known survey[NODES];
+    uint16_t anchors[NODES];
+    uint8_t asked[NODES];
+    if (!survey_network(net, survey) || net->m <= e || mark > 1)
+        return 0;
+    for (size_t u = 0; u < net->n; u++)
+        if (net->parents[u] == e)
+            return 0;
+    struct link *l = net->links + e;
+    if (mark == 1 && !keeps_short(survey[l->first].near, survey[l->second].near, length))
+        return 0;
+    memset(asked, 0, net->n);
+    flip_up(survey, net->root, asked, l->first);
+    flip_up(survey, net->root, asked, l->second);
+    fill_anchors(survey, net->n, net->root, asked, anchors);
+    l->length = (uint16_t)length;
+    l->mark = (uint16_t)mark;
+    refresh(net, survey, anchors, entries);
+    return 1;
+}
+
+enum { HEADER_KIND = 0x48, LINKS_KIND = 0x4c, TABLE_KIND = 0x54, EDITION = 1, FRONT = 8 };
+enum { LINK_BYTES = 8, ENTRY_BYTES = 28, LINKS_A_BLOCK = 63, ENTRIES_A_BLOCK = 18 };
+
+static uint8_t *put(uint8_t *at, uint64_t number, size_t bytes)
+{
+    for (size_t i = bytes; i-- > 0; number >>= 8)
+        at[i] = (uint8_t)number;
+    return at + bytes;
+}
+
+static uint16_t two(const uint8_t *at)
+{
+    return (uint16_t)(at[0] << 8 | at[1]);
+}
+
+// RFC 1071 over a block, its bytes 6 and 7 taken as zero.
+static uint16_t check_of(const uint8_t *block)
+{
+    uint32_t sum = 0;
+    for (size_t i = 0; i < BLOCK; i += 2)
+        sum += i == 6 ? 0 : two(block + i);
+    sum = (sum & 0xffff) + (sum >> 16);
+    sum = (sum & 0xffff) + (sum >> 16);
+    return (uint16_t)~sum;
+}
+
+static void put_entry(uint8_t *at, uint16_t parent, const uint64_t *entry)
+{
+    at = put(at, parent, 2);
+    at = put(at, entry[0], 1);
+    at = put(at, 0, 1);
+    for (size_t i = 1; i <= 3; i++)
+        at = put(at, entry[i], 2);
+    at = put(at, 0, 2);
+    at = put(at, entry[4], 8);
+    at = put(at, entry[5], 4);
+    put(at, entry[6], 4);
+}
+
+// What block i of a file holds.
+struct part {
+    unsigned kind;
+    size_t from, used;
+};
+
+static size_t blocks_for(size_t each, size_t c)
+{
+    return (c + each - 1) / each;
+}
+
+static size_t block_count(size_t n, size_t m)
+{
+    return 1 + blocks_for(LINKS_A_BLOCK, m) + blocks_for(ENTRIES_A_BLOCK, n);
+}
+
+static struct part part_of(unsigned kind, size_t each, size_t c, size_t j)
+{
+    size_t from = j * each, left = c - from;
+    return (struct part){kind, from, left < each ? left : each};
+}
+
+static struct part part_at(size_t n, size_t m, size_t i)
+{
+    size_t before = blocks_for(LINKS_A_BLOCK, m);
+    if (i == 0)
+        return (struct part){HEADER_KIND, 0, 1};
+    return i <= before ? part_of(LINKS_KIND, LINKS_A_BLOCK, m, i - 1) : part_of(TABLE_KIND, ENTRIES_A_BLOCK, n, i - 1 - before);
+}
+
+static void write_block(const struct network *net, const uint64_t *entries, size_t i, uint8_t *block)
+{
+    struct part part = part_at(net->n, net->m, i);
+    uint8_t *at = block + FRONT;
+    memset(block, 0, BLOCK);
+    if (part.kind == HEADER_KIND) {
+        at = put(at, net->n, 2);
+        at = put(at, net->m, 2);
+        at = put(at, net->root, 2);
+        put(at, net->depth, 2);
+    }
+    for (size_t r = part.from; r < part.from + part.used; r++) {
+        if (part.kind == LINKS_KIND) {
+            struct link l = net->links[r];
+            at = put(put(put(put(at, l.first, 2), l.second, 2), l.length, 2), l.mark, 2);
+        } else if (part.kind == TABLE_KIND) {
+            put_entry(at, net->parents[r], entries + r * ENTRY);
+            at += ENTRY_BYTES;
+        }
+    }
+    put(put(put(put(block, part.kind, 1), EDITION, 1), i, 2), part.used, 2);
+    put(block + 6, check_of(block), 2);
+}
+
+static size_t write_file(const struct network *net, uint8_t *file)
+{
+    static uint64_t entries[NODES * ENTRY];
+    if (!table(net, entries))
+        return 0;
+    size_t count = block_count(net->n, net->m);
+    for (size_t i = 0; i < count; i++)
+        write_block(net, entries, i, file + i * BLOCK);
+    return count * BLOCK;
+}
+
+// 21 and 22 of a block.
+static int good_block(const uint8_t *block, size_t i, struct part part)
+{
+    if (two(block + 6) != check_of(block))
+        return 0;
+    if (block[0] != part.kind || block[1] != EDITION || two(block + 2) != i || two(block + 4) != part.used)
+        return 0;
+    size_t size = part.kind == HEADER_KIND ? 8 : part.kind == LINKS_KIND ? LINK_BYTES : ENTRY_BYTES;
+    for (size_t at = FRONT + part.used * size; at < BLOCK; at++)
+        if (block[at] != 0)
+            return 0;
+    for (size_t r = 0; part.kind == TABLE_KIND && r < part.used; r++) {
+        const uint8_t *at = block + FRONT + r * ENTRY_BYTES;
+        if (at[3] != 0 || at[10] != 0 || at[11] != 0)
+            return 0;
+    }
+    return 1;
+}
+
+static int read_file(const uint8_t *file, size_t size, struct network *net, uint64_t *entries)
+{
+    static struct network own;
+    static uint64_t row[NODES * ENTRY];
+    if (size == 0 || size % BLOCK != 0 || !good_block(file, 0, (struct part){HEADER_KIND, 0, 1}))
+        return 0;
+    own.n = two(file + FRONT);
+    own.m = two(file + FRONT + 2);
+    own.root = two(file + FRONT + 4);
+    own.depth = two(file + FRONT + 6);
+    if (own.n == 0 || own.n > NODES || own.m > LINKS || size != block_count(own.n, own.m) * BLOCK)
+        return 0;
+    for (size_t i = 0; i < size / BLOCK; i++) {
+        struct part part = part_at(own.n, own.m, i);
+        const uint8_t *at = file + i * BLOCK;
+        if (!good_block(at, i, part))
+            return 0;
+        at += FRONT;
+        for (size_t r = part.from; r < part.from + part.used; r++) {
+            if (part.kind == LINKS_KIND) {
+                own.links[r] = (struct link){two(at), two(at + 2), two(at + 4), two(at + 6)};
+                at += LINK_BYTES;
+            } else if (part.kind == TABLE_KIND) {
+                own.parents[r] = two(at);
+                at += ENTRY_BYTES;
+            }
+        }
+    }
+    if (!table(&own, row))
+        return 0;
+    size_t before = 1 + blocks_for(LINKS_A_BLOCK, own.m);
+    for (size_t x = 0; x < own.n; x++) {
+        uint8_t stored[ENTRY_BYTES];
+        put_entry(stored, own.parents[x], row + x * ENTRY);
+        const uint8_t *at = file + (before + x / ENTRIES_A_BLOCK) * BLOCK + FRONT + x % ENTRIES_A_BLOCK * ENTRY_BYTES;
+        if (memcmp(at, stored, ENTRY_BYTES) != 0)
+            return 0;
+    }
+    *net = own;
+    memcpy(entries, row, own.n * ENTRY * sizeof *row);
     return 1;
 }

@@ -1,5 +1,5 @@
-// shapes SHAPE N M TIMES: writes a network of this shape (tree, grid, path, star) in the form that network.h describes. The
-// same words give the same network. `shapes SHAPE N M height` prints the height of its tree instead.
+// shapes SHAPE N M TIMES JOB: writes a network of this shape (tree, grid, path, star) in the form that network.h describes. The
+// same words give the same network. `shapes SHAPE N M height 0` prints the height of its tree instead.
 //
 // Nodes and links are numbered at random. Tree links are 1 to 100 long. Every other link is as long as its ends' distances
 // differ or up to 99 more, so that the tree is a shortest-path tree. All are in service, and the search is whole.
@@ -74,7 +74,7 @@ static void put(unsigned word)
 int main(int count, char **words)
 {
     static unsigned node[NODES], number[LINKS], parents[NODES], hops[NODES], d[NODES], links[LINKS][3];
-    if (count != 5)
+    if (count != 6)
         return 2;
     char shape = words[1][0];
     unsigned n = (unsigned)atoi(words[2]), m = (unsigned)atoi(words[3]), height = 0;
@@ -117,5 +117,6 @@ int main(int count, char **words)
         put(links[e][2]);
         put(1);
     }
+    put((unsigned)atoi(words[5]));
     return 0;
 }

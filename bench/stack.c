@@ -17,14 +17,14 @@
 #include <string.h>
 #include <ucontext.h>
 
-enum { BLOCK = 512, SPACE = 1 << 18, PAINT = 0x5a, OTHER_PAINT = 0xa5, STEP = 8, KNOWN = 10000, SLACK = 64 };
+enum { BLOCK = 512, SPACE = 1 << 18, PAINT = 0x5a, OTHER_PAINT = 0xa5, STEP = 8, KNOWN = 10000, SLACK = 64, SURVEY = 7 * NODES };
 
 // What a call is lent and given: a network, rows, a file and a block of it, nodes, and a change. Where room is 0, the rows
 // besides the network's have none.
 struct lent {
     uint16_t links[DOERAGYEOL_LINKS_ROW], parents[NODES + 1], root, depth;
     size_t n, m, room, u, z;
-    uint64_t entries[DOERAGYEOL_ENTRIES_ROW], marks[NODES], row[NODES], words[DOERAGYEOL_MAP_WORDS], told[DOERAGYEOL_HEADER];
+    uint64_t entries[DOERAGYEOL_ENTRIES_ROW], marks[NODES], row[NODES], survey[SURVEY], words[DOERAGYEOL_MAP_WORDS], told[DOERAGYEOL_HEADER];
     size_t route[NODES];
     uint8_t file[DOERAGYEOL_FILE_BYTES], kind;
     size_t file_length, block;
@@ -65,6 +65,8 @@ typedef uint64_t call(struct lent *l);
     CALL("record::put_link", painted_put_link, BYTES, 0, l->number, l->used, l->length, l->mark)                 \
     CALL("record::put_entry", painted_put_entry, BYTES, 0, l->number, l->mark, l->link, l->length)               \
     CALL("survey::distances", painted_survey, NET, ROW(row))                                                     \
+    CALL("survey::fill", painted_fill, NET, ROW(survey))                                                         \
+    CALL("sound::survey_network", painted_survey_network, NET, ROW(survey))                                      \
     CALL("sound::check_network", painted_check_network, NET)                                                     \
     CALL("table::check_table", painted_check_table, NET, ROW(entries))                                           \
     CALL("table::refresh", painted_refresh, NET, ROW(marks), ROW(entries))                                       \
@@ -313,9 +315,9 @@ static void measure(const struct lent *given, size_t *most)
 static void load(const char *name, struct lent *given)
 {
     static struct network net;
-    size_t times;
+    size_t times, job;
     FILE *file = fopen(name, "rb");
-    if (file == NULL || !read_network(file, &net, &times))
+    if (file == NULL || !read_network(file, &net, &times, &job))
         fail(name, "it is no network");
     fclose(file);
     if (!lend(given, &net))

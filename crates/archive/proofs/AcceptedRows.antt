@@ -6,26 +6,26 @@ use Prim.Native.Nat.{ℕ, _<_, _≤_}
 use native.Mathlib.Omega.{arith}
 use lib.Dec.{ltb}
 use lib.ListN.{length, drop}
-use borrow.Author.Tests.{ltb-false, le-ltb, eqb-true, not-false}
+use borrow.Author.Tests.{ltb-false}
 use Rattle.edition.specs.declared.Refusal.{Refusal}
 use Rattle.edition.specs.declared.Verdict.{Verdict}
 use Rattle.edition.specs.declared.Verdict.the-variants.{Taken, Refused}
-use Rattle.edition.specs.declared.Why.the-variants.{BadLength, NoRoom}
-use Rattle.rows.proofs.Refusing.{head-taken, rest-taken, both-taken, none-left, if-taken, if-passes}
+use Rattle.edition.specs.declared.Why.the-variants.{NoRoom}
+use Rattle.rows.proofs.Refusing.{head-taken, rest-taken, if-taken}
 use Rattle.rows.proofs.Tests.{or3-false}
 use Rattle.entries.specs.Row.{entriesIn, pastEntries}
-use Rattle.network.specs.Network.{Net, linksIn, pastLinks}
+use Rattle.network.specs.Network.{linksIn, pastLinks}
 use Rattle.sound.specs.Sound.{netVerdict}
 use Rattle.sound.proofs.Sounds.{sound}
 use Rattle.sound.proofs.Holding.{root-in}
-use Rattle.table.specs.Table.{table, tableVerdict, tableRow}
+use Rattle.table.specs.Table.{table}
 use Rattle.archive.specs.declared.Header.{Header}
 use Rattle.archive.specs.declared.ReadAnswer.the-variants.{Is, Not}
 use Rattle.archive.specs.Reader.{nodesRead, linksRead, headRead, linksHeld, parentsHeld, netRead, Rows, tooShort, headVerdict, restVerdict}
 use Rattle.archive.specs.Reader.{readVerdict, readAnswer, rowsRead}
 use Rattle.archive.specs.Work.{Blocked}
 use Rattle.archive.proofs.Reading.{nodes-read}
-use Rattle.archive.proofs.ReadOrder.{sizes-taken, records-alone}
+use Rattle.archive.proofs.ReadOrder.{records-alone, blocks-passed, blocked}
 
 module _ (file : List ℕ) (rows : Rows) (t : readVerdict file rows ≡ Taken) where
   head-ok : headVerdict file ≡ Taken
@@ -37,13 +37,7 @@ module _ (file : List ℕ) (rows : Rows) (t : readVerdict file rows ≡ Taken) w
   rest-ok = head-taken _ _ (rest-taken _ _ t)
 
   pub accepted-blocked : (head : Header) → head ≡ headRead file → Blocked file head
-  unfolding restVerdict
-  accepted-blocked head h =
-      record {
-        is = h;
-        sized = sizes-taken file head-ok;
-        long = eqb-true (length file) _ (not-false _ (if-taken _ BadLength 0 (head-taken _ _ rest-ok)));
-      }
+  accepted-blocked = blocked file (blocks-passed file rows t)
 
   pub accepted-sound : netVerdict (netRead file) ≡ Taken
   unfolding restVerdict
@@ -76,22 +70,8 @@ module _ (file : List ℕ) (rows : Rows) (t : readVerdict file rows ≡ Taken) w
     pub parents-room : head .nodes ≤ length (rows .parents)
     parents-room = omega (arith, nodes-is, rooms .1)
 
-  table-fits : tableVerdict (netRead file) (rows .entries) ≡ Taken
-  unfolding tableVerdict
-  table-fits =
-      both-taken _ _ accepted-sound
-      (both-taken _ _ (if-passes _ NoRoom 0 (le-ltb (entriesIn (rows .entries)) (netRead file .nodes) (omega (arith, rooms .2, nodes-read file)))) none-left)
-
-  -- the row of entries that the table leaves
-  pub entries-filled :
-      (g : Net)
-      → g ≡ netRead file → (after : List ℕ) → after ≡ tableRow g (rows .entries)
-      → after ≡ table (netRead file) ++ pastEntries (nodesRead file) (rows .entries)
-  unfolding tableRow
-  entries-filled g e after q =
-      q
-      ∙ (ap (λ (k : Net). tableRow k (rows .entries)) e
-      ∙ (rw table-fits (ap (λ (k : ℕ). table (netRead file) ++ pastEntries k (rows .entries)) (nodes-read file))))
+    pub entries-room : head .nodes ≤ entriesIn (rows .entries)
+    entries-room = omega (arith, nodes-is, rooms .2)
 
 -- the answer and the rows
 module _ (file links parents entries : List ℕ) (v : Verdict) (is : v ≡ readVerdict file (record { links = links; parents = parents; entries = entries })) where

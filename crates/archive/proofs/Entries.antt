@@ -21,14 +21,12 @@ use Rattle.rows.specs.Lists.{same}
 use Rattle.rows.proofs.Best.{first-cong}
 use Rattle.network.specs.Network.{Net, linksIn, netOf}
 use Rattle.sound.specs.Sound.{netVerdict}
-use Rattle.table.specs.Table.{table, tableRow}
-use Rattle.entries.specs.Row.{entryAt, pastEntries}
+use Rattle.entries.specs.Row.{entryAt}
 use Rattle.table.proofs.Whole.{table-entry}
-use Rattle.table.proofs.Single.{bareRow, bare-verdict}
 use Rattle.record.specs.Record.{entryRecord, recordPut}
 use Rattle.record.proofs.Putting.{entry-size}
 use Rattle.archive.specs.Parts.{entryPlace}
-use Rattle.archive.specs.Work.{badBy, badStored, Placed, contentVerdict}
+use Rattle.archive.specs.Work.{Tabled, badBy, badStored, Placed, contentVerdict, Judged}
 
 -- a record put into a row of its size is the row
 own-is : (u : ℕ) (e : Entry) (own : List ℕ) → own ≡ recordPut 0 entryBytes (entryRecord u e) (replicate entryBytes 0) → own ≡ entryRecord u e
@@ -62,46 +60,48 @@ module _ (u : ℕ) (e : Entry) (own : List ℕ) (q : own ≡ recordPut 0 entryBy
 pub placed-by : (file : List ℕ) (n m l : ℕ) → m ≡ l → Placed file l n → Placed file m n
 placed-by file n m l q p = subst (λ k. Placed file k n) (sym q) p
 
--- by the table of a sound network
-module _ (links parents : List ℕ) (search : Search) where
+-- by a row that begins with the table
+module _ (file links parents : List ℕ) (search : Search) (short : Bool) where
   abbrev g : Net
   g = netOf links parents search
 
-  module _ (ok : netVerdict g ≡ Taken) where
-    table-is :
-        (entries : List ℕ)
-        → entries ≡ tableRow g bareRow
-        → entries ≡ table g ++ pastEntries (g .nodes) bareRow
-    unfolding tableRow
-    table-is entries q = q ∙ rw (bare-verdict g Taken ok)
+  stored-bad :
+      (worked : List ℕ)
+      → Tabled g worked → (m : ℕ) → m ≡ linksIn links
+      → firstTo (badBy file m parents worked) (length parents)
+      ≡ firstTo (badStored file g) (length parents)
+  unfolding badBy badStored netOf
+  stored-bad worked t m c =
+      first-cong _ _ (length parents)
+      (λ x l.
+      ap₂ (λ (k : ℕ) (own : Entry). not (same (take entryBytes (drop (entryPlace k x) file)) (entryRecord (getD parents x noLink) own))) c
+      (ap (λ (row : List ℕ). entryAt row x) (t .is)
+      ∙ table-entry g (t .more) x l))
 
-    pub stored-bad :
-        (file entries : List ℕ)
-        → entries ≡ tableRow g bareRow → (m : ℕ) → m ≡ linksIn links → (f : Found)
-        → f ≡ firstTo (badBy file m parents entries) (length parents)
-        → f ≡ firstTo (badStored file g) (length parents)
-    unfolding badBy badStored netOf
-    stored-bad file entries q m c f p =
-        p
-        ∙ first-cong _ _ (length parents)
-        (λ x l.
-        ap₂ (λ (k : ℕ) (own : Entry). not (same (take entryBytes (drop (entryPlace k x) file)) (entryRecord (getD parents x noLink) own))) c
-        (ap (λ (row : List ℕ). entryAt row x) (table-is entries q)
-        ∙ table-entry g (pastEntries (g .nodes) bareRow) x l))
+  -- the checks of the content in their order
+  refused-judged : (v : Verdict) (r : Refusal) → v ≡ Refused r → contentVerdict file g short ≡ Refused r → (row : List ℕ) → Judged file g short v row
+  refused-judged v r t e row =
+      record { is = t ∙ sym e; tabled = λ ok. let clash : _≡_ {A = ℕ} 0 1 = cc in absurd (omega arith) }
 
--- the checks of the content in their order
-module _ (file links parents : List ℕ) (search : Search) (tooShort : Bool)
-    (ok : netVerdict (netOf links parents search) ≡ Taken) (w : Verdict) (wis : w ≡ refuseIf tooShort NoRoom 0) where
-  pub room-refuses : (r : Refusal) → w ≡ Refused r → w ≡ contentVerdict file (netOf links parents search) tooShort
+  pub net-judged : (v : Verdict) → v ≡ netVerdict g → (r : Refusal) → v ≡ Refused r → (row : List ℕ) → Judged file g short v row
   unfolding contentVerdict
-  room-refuses r t = t ∙ sym (head-passes _ _ ok ∙ head-refuses _ _ r (sym wis ∙ t))
+  net-judged v q r t row = refused-judged v r t (head-refuses _ _ r (sym q ∙ t)) row
 
-  pub entries-decide :
-      w ≡ Taken
-      → (f : Found) → f ≡ firstTo (badStored file (netOf links parents search)) (length parents) → (x : Verdict)
-      → x ≡ refusedAt BadEntry f → x ≡ contentVerdict file (netOf links parents search) tooShort
-  unfolding contentVerdict refuseAt netOf
-  entries-decide t f e x q =
-      q
-      ∙ (ap (refusedAt BadEntry) e
-      ∙ sym (head-passes _ _ ok ∙ (head-passes _ _ (sym wis ∙ t) ∙ only-one _)))
+  module _ (worked : List ℕ) (t : Tabled g worked) (w : Verdict) (wis : w ≡ refuseIf short NoRoom 0) where
+    pub room-judged : (r : Refusal) → w ≡ Refused r → Judged file g short w worked
+    unfolding contentVerdict
+    room-judged r q = refused-judged w r q (head-passes _ _ (t .ok) ∙ head-refuses _ _ r (sym wis ∙ q)) worked
+
+    pub entries-judged :
+        w ≡ Taken
+        → (m : ℕ) → m ≡ linksIn links → (f : Found) → f ≡ firstTo (badBy file m parents worked) (length parents) → (x : Verdict)
+        → x ≡ refusedAt BadEntry f → Judged file g short x worked
+    unfolding contentVerdict refuseAt netOf
+    entries-judged o m c f e x q =
+        record {
+          is =
+              q
+              ∙ (ap (refusedAt BadEntry) (e ∙ stored-bad worked t m c)
+              ∙ sym (head-passes _ _ (t .ok) ∙ (head-passes _ _ (sym wis ∙ o) ∙ only-one _)));
+          tabled = λ ok. t;
+        }

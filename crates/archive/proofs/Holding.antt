@@ -14,14 +14,14 @@ use Rattle.rows.specs.Count.{rowsTo, rowWith}
 use Rattle.rows.proofs.Records.{rows-length}
 use Rattle.rows.specs.Records.{pastRecords}
 use Rattle.network.specs.declared.Link.{Link}
-use Rattle.network.specs.Network.{linksIn, linkRow, putLink, frontLinks, pastLinks, netOf}
+use Rattle.network.specs.Network.{Net, linksIn, linkRow, putLink, frontLinks, pastLinks, netOf}
 use Rattle.network.proofs.Keeping.{rows-first, put-next}
 use Rattle.network.proofs.Sizes.{sized-nodes, sized-links}
 use Rattle.numbers.specs.Bytes.{numberIn}
 use Rattle.archive.specs.declared.Header.{Header}
 use Rattle.archive.specs.Parts.{blocksFor, blockCount, linkPlace, entryPlace}
 use Rattle.archive.specs.Reader.{nodesRead, linksRead, searchRead, headRead, storedLink, linksHeld, parentsHeld, netRead}
-use Rattle.archive.specs.Work.{linksFrom, parentNumber, Placed, Blocked, contentVerdict}
+use Rattle.archive.specs.Work.{linksFrom, parentNumber, Placed, Blocked, Judged}
 use Rattle.archive.proofs.Reading.{nodes-read, links-read}
 
 -- a row that was filled begins with what it was filled with
@@ -120,16 +120,15 @@ module _ (file : List ℕ) (head : Header) (b : Blocked file head) where
       part-is′ : part′ ≡ parentsHeld file
       part-is′ = e′ ∙ parents-are
 
-      pub network-is : netOf part part′ (head .search) ≡ netRead file
+      network-is : netOf part part′ (head .search) ≡ netRead file
       unfolding netRead
       network-is = λ t. netOf (part-is t) (part-is′ t) (search-is t)
 
-      pub content-is :
-          (tooShort : Bool) (v : Verdict)
-          → v ≡ contentVerdict file (netOf part part′ (head .search)) tooShort
-          → v ≡ contentVerdict file (netRead file) tooShort
-      unfolding netRead
-      content-is tooShort v q = q ∙ (λ t. contentVerdict file (netOf (part-is t) (part-is′ t) (search-is t)) tooShort)
+      pub judged-is :
+          (short : Bool) (v : Verdict) (worked : List ℕ)
+          → Judged file (netOf part part′ (head .search)) short v worked
+          → Judged file (netRead file) short v worked
+      judged-is short v worked j = subst (λ (g : Net). Judged file g short v worked) network-is j
 
       pub entries-placed : Placed file (linksIn part) (length part′)
       entries-placed = placed-rows (linksIn part) (ap linksIn part-is ∙ links-of file) (length part′) (ap length part-is′ ∙ nodes-of file)

@@ -1,5 +1,6 @@
 pub mod Blocks
 pub mod Entries
+pub mod Tabling
 pub mod WriterAnswer
 pub mod Comparing
 pub mod WriterLoop
@@ -9,6 +10,7 @@ pub mod BlockChecks
 pub mod Laying
 pub mod Parting
 pub mod AcceptedRows
+pub mod Copying
 pub mod Records
 pub mod Pieces
 pub mod Reading

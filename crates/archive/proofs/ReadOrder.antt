@@ -1,5 +1,5 @@
 -- The order of the refusals of a file. Assumes nothing.
-use mathlib.Core.Path.{_≡_, sym, ap, ap₂, _∙_}
+use mathlib.Core.Path.{_≡_, refl, sym, ap, ap₂, _∙_}
 use mathlib.Core.Bool.{Bool, not}
 use mathlib.Core.List.{List, [], _∷_}
 use Prim.Native.Nat.{ℕ, _*_, _≤_}
@@ -25,13 +25,19 @@ use Rattle.archive.specs.declared.Header.{Header}
 use Rattle.archive.specs.Parts.{blockCount}
 use Rattle.archive.specs.Reader.{nodesRead, linksRead, searchRead, headRead, netRead, blockRefusal, badEntry, Rows, tooShort, headVerdict}
 use Rattle.archive.specs.Reader.{restVerdict, readVerdict}
-use Rattle.archive.specs.Work.{Blocked, badStored, contentVerdict}
+use Rattle.archive.specs.Work.{Blocked, badStored, contentVerdict, blocksVerdict}
 use Rattle.archive.proofs.Reading.{nodes-read, links-read}
 
--- where the head is taken, the rest decides
-rest-decides : (file : List ℕ) (rows : Rows) → headVerdict file ≡ Taken → restVerdict file rows ≡ readVerdict file rows
-unfolding readVerdict
-rest-decides file rows t = sym (head-passes _ _ t ∙ only-one _)
+-- checks in their order, the first three of them together
+together :
+    (a b c : Verdict) (rest : List Verdict)
+    → firstly (a ∷ firstly (b ∷ c ∷ rest) ∷ [])
+    ≡ firstly (firstly (a ∷ b ∷ c ∷ []) ∷ firstly rest ∷ [])
+unfolding firstly
+together Taken Taken Taken rest = refl
+together Taken Taken (Refused r) rest = refl
+together Taken (Refused r) c rest = refl
+together (Refused r) b c rest = refl
 
 pub sizes-taken : (file : List ℕ) → headVerdict file ≡ Taken → sizeVerdict editionLimits (nodesRead file) (linksRead file) (searchRead file) ≡ Taken
 unfolding headVerdict
@@ -76,9 +82,10 @@ content-decides file short t =
     ap (λ (v : Verdict). firstly (v ∷ refuseIf short NoRoom 0 ∷ refuseAt (badEntry file) (netRead file .nodes) BadEntry ∷ [])) (records-alone file t)
     ∙ ap (λ (k : ℕ). firstly (recordVerdict (netRead file) ∷ refuseIf short NoRoom 0 ∷ refuseAt (badEntry file) k BadEntry ∷ [])) (nodes-read file)
 
-module _ (file : List ℕ) (rows : Rows) (v : Verdict) (is : v ≡ headVerdict file) where
-  pub head-decides : (r : Refusal) → v ≡ Refused r → v ≡ readVerdict file rows
-  unfolding readVerdict
+-- the verdict on head, length and blocks, check by check
+module _ (file : List ℕ) (v : Verdict) (is : v ≡ headVerdict file) where
+  pub head-decides : (r : Refusal) → v ≡ Refused r → v ≡ blocksVerdict file
+  unfolding blocksVerdict
   head-decides r t = t ∙ sym (head-refuses _ _ r (sym is ∙ t))
 
   module _ (ok : v ≡ Taken) (head : Header) (h : head ≡ headRead file) where
@@ -93,11 +100,8 @@ module _ (file : List ℕ) (rows : Rows) (v : Verdict) (is : v ≡ headVerdict f
     unfolding headRead
     links-is = ap (λ (k : Header). k .links) h
 
-    pub small-nodes : head .nodes ≤ wordMost
-    small-nodes = omega (arith, nodes-is, few-nodes file taken)
-
-    pub small-links : head .links ≤ wordMost
-    small-links = omega (arith, links-is, few-links file taken)
+    pub small-sizes : (head .nodes ≤ wordMost) × (head .links ≤ wordMost)
+    small-sizes = (omega (arith, nodes-is, few-nodes file taken), omega (arith, links-is, few-links file taken))
 
     module _ (k : ℕ) (e : k ≡ blockCount (head .nodes) (head .links) * blockBytes) (w : Verdict)
         (wis : w ≡ refuseIf (not (eqb (length file) k)) BadLength 0) where
@@ -107,40 +111,71 @@ module _ (file : List ℕ) (rows : Rows) (v : Verdict) (is : v ≡ headVerdict f
       length-is : w ≡ refuseIf (not (eqb (length file) (blockCount (nodesRead file) (linksRead file) * blockBytes))) BadLength 0
       length-is = wis ∙ ap (λ (j : ℕ). refuseIf (not (eqb (length file) j)) BadLength 0) size-is
 
-      pub length-decides : (r : Refusal) → w ≡ Refused r → w ≡ readVerdict file rows
-      unfolding restVerdict
-      length-decides r t = t ∙ (sym (head-refuses _ _ r (sym length-is ∙ t)) ∙ rest-decides file rows taken)
+      pub length-decides : (r : Refusal) → w ≡ Refused r → w ≡ blocksVerdict file
+      unfolding blocksVerdict
+      length-decides r t = t ∙ sym (head-passes _ _ taken ∙ head-refuses _ _ r (sym length-is ∙ t))
 
       module _ (long : w ≡ Taken) where
-        exact : length file ≡ blockCount (nodesRead file) (linksRead file) * blockBytes
-        exact = eqb-true (length file) _ (not-false _ (if-taken _ BadLength 0 (sym length-is ∙ long)))
-
         pub blocks-there : blockCount (head .nodes) (head .links) * blockBytes ≤ length file
-        blocks-there = omega (arith, exact, sym e ∙ size-is)
+        blocks-there = omega (arith, eqb-true (length file) k (not-false _ (if-taken _ BadLength 0 (sym wis ∙ long))), e)
 
-        pub blocked : Blocked file head
-        blocked = record { is = h; sized = sizes-taken file taken; long = exact }
+        pub blocks-decide :
+            (x : Verdict)
+            → x ≡ verdictTo (blockRefusal file (head .nodes) (head .links)) (blockCount (head .nodes) (head .links))
+            → x ≡ blocksVerdict file
+        unfolding blocksVerdict
+        blocks-decide x xis =
+            xis
+            ∙ (ap₂ (λ (a b : ℕ). verdictTo (blockRefusal file a b) (blockCount a b)) nodes-is links-is
+            ∙ sym (head-passes _ _ taken ∙ (head-passes _ _ (sym length-is ∙ long) ∙ only-one _)))
 
-        module _ (x : Verdict) (xis : x ≡ verdictTo (blockRefusal file (head .nodes) (head .links)) (blockCount (head .nodes) (head .links))) where
-          blocks-are : x ≡ verdictTo (blockRefusal file (nodesRead file) (linksRead file)) (blockCount (nodesRead file) (linksRead file))
-          blocks-are = xis ∙ ap₂ (λ (a b : ℕ). verdictTo (blockRefusal file a b) (blockCount a b)) nodes-is links-is
+-- that verdict, and the records behind it
+module _ (file : List ℕ) (rows : Rows) where
+  in-order :
+      readVerdict file rows
+      ≡ firstly
+      (blocksVerdict file ∷
+      firstly
+      (recordVerdict (netRead file) ∷ refuseIf (tooShort (nodesRead file) (linksRead file) rows) NoRoom 0 ∷
+      refuseAt (badEntry file) (nodesRead file) BadEntry ∷ []) ∷
+      [])
+  unfolding readVerdict restVerdict blocksVerdict
+  in-order = together _ _ _ _
 
-          pub blocks-decide : (r : Refusal) → x ≡ Refused r → x ≡ readVerdict file rows
-          unfolding restVerdict
-          blocks-decide r t =
-              t ∙ (sym (head-passes _ _ (sym length-is ∙ long) ∙ head-refuses _ _ r (sym blocks-are ∙ t)) ∙ rest-decides file rows taken)
+  pub blocks-passed : readVerdict file rows ≡ Taken → blocksVerdict file ≡ Taken
+  blocks-passed t = head-taken _ _ (sym in-order ∙ t)
 
-          pub records-decide :
-              x ≡ Taken
-              → (short : Bool) → short ≡ tooShort (head .nodes) (head .links) rows → (y : Verdict)
-              → y ≡ contentVerdict file (netRead file) short → y ≡ readVerdict file rows
-          unfolding restVerdict
-          records-decide t short s y q =
-              q
-              ∙ (content-decides file short taken
-              ∙ (ap
-              (λ (b : Bool). firstly
-              (recordVerdict (netRead file) ∷ refuseIf b NoRoom 0 ∷ refuseAt (badEntry file) (nodesRead file)
-              BadEntry ∷ []))
-              (s ∙ ap₂ (λ (a b : ℕ). tooShort a b rows) nodes-is links-is)
-              ∙ (sym (head-passes _ _ (sym length-is ∙ long) ∙ head-passes _ _ (sym blocks-are ∙ t)) ∙ rest-decides file rows taken)))
+  pub blocks-refuse : (v : Verdict) → v ≡ blocksVerdict file → (r : Refusal) → v ≡ Refused r → v ≡ readVerdict file rows
+  blocks-refuse v is r t = t ∙ sym (in-order ∙ head-refuses _ _ r (sym is ∙ t))
+
+module _ (file : List ℕ) (t : blocksVerdict file ≡ Taken) (head : Header) (h : head ≡ headRead file) where
+  head-passed : headVerdict file ≡ Taken
+  unfolding blocksVerdict
+  head-passed = head-taken _ _ t
+
+  pub blocked : Blocked file head
+  unfolding blocksVerdict
+  blocked =
+      record {
+        is = h;
+        sized = sizes-taken file head-passed;
+        long = eqb-true (length file) _ (not-false _ (if-taken _ BadLength 0 (head-taken _ _ (rest-taken _ _ t))));
+      }
+
+  short-is : (rows : Rows) → tooShort (head .nodes) (head .links) rows ≡ tooShort (nodesRead file) (linksRead file) rows
+  unfolding headRead
+  short-is rows = ap (λ (k : Header). tooShort (k .nodes) (k .links) rows) h
+
+  pub records-decide :
+      (rows : Rows) (short : Bool)
+      → short ≡ tooShort (head .nodes) (head .links) rows → (y : Verdict)
+      → y ≡ contentVerdict file (netRead file) short → y ≡ readVerdict file rows
+  records-decide rows short s y q =
+      q
+      ∙ (content-decides file short head-passed
+      ∙ (ap
+      (λ (b : Bool). firstly
+      (recordVerdict (netRead file) ∷ refuseIf b NoRoom 0 ∷ refuseAt (badEntry file) (nodesRead file) BadEntry ∷
+      []))
+      (s ∙ short-is rows)
+      ∙ sym (in-order file rows ∙ (head-passes _ _ t ∙ only-one _))))

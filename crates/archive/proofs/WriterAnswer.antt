@@ -1,5 +1,6 @@
 -- The file of a sound network: its size, and what the writer answers. Assumes nothing.
 use mathlib.Core.Path.{_≡_, refl, subst, ap, ap₂, _∙_}
+use mathlib.Core.Bool.{true, false}
 use mathlib.Core.List.{List, _++_}
 use Prim.Native.Nat.{ℕ, _+_, _*_, _<_, _≤_}
 use native.Mathlib.Omega.{arith}
@@ -29,12 +30,9 @@ use Rattle.archive.specs.declared.WriteAnswer.the-variants.{Is, Not}
 use Rattle.edition.specs.declared.Refusal.{Refusal}
 use Rattle.edition.specs.declared.Why.the-variants.{NoRoom}
 use Rattle.edition.specs.Limits.{nodeLimit, linkLimit}
-use Rattle.entries.specs.Row.{pastEntries}
 use Rattle.rows.specs.First.{refuseIf}
-use Rattle.rows.proofs.Refusing.{head-taken, rest-taken, if-taken}
-use Rattle.table.specs.Table.{tableRow}
-use Rattle.table.proofs.Single.{bareRow, bare-verdict}
-use borrow.Author.Tests.{ltb-false}
+use Rattle.rows.proofs.Refusing.{head-refuses, head-passes, only-one}
+use borrow.Author.Tests.{lt-ltb, le-ltb}
 
 -- how many blocks there can be
 pub few-blocks : (n m r : ℕ) → r ≡ blockCount n m → n ≤ wordMost → m ≤ wordMost → r ≤ wordMost
@@ -132,45 +130,47 @@ module _ (links parents : List ℕ) (search : Search) where
           ∙ (ap (λ (j : ℕ). refuseIf (ltb (length file) j) NoRoom 0) size
           ∙ handed-then g s e z t (refuseIf (ltb (length file) (blockCount (length parents) (linksIn links) * blockBytes)) NoRoom 0))
 
-    module _ (t : writeVerdict g file ≡ Taken) where
-      net-taken : netVerdict g ≡ Taken
-      unfolding writeVerdict
-      net-taken = head-taken _ _ t
+    -- by the network's verdict, which the table gave
+    pub write-unsound :
+        (r : Refusal)
+        → netVerdict g ≡ Refused r
+        → (Not r ≡ writeAnswer g file)
+        × (file ≡ writtenRow g file)
+    unfolding writeAnswer writtenRow writeVerdict
+    write-unsound r t = let said : writeVerdict g file ≡ Refused r = head-refuses _ _ r t in (rw said, rw said)
 
-      pub write-room : fileLength g ≤ length file
-      unfolding writeVerdict
-      write-room = ltb-false (length file) (fileLength g) (if-taken _ NoRoom 0 (head-taken _ _ (rest-taken _ _ t)))
+    module _ (entries : List ℕ) (t : Tabled g entries) (m : ℕ) (c : m ≡ linksIn links) where
+      pub tabled-small : (length parents ≤ wordMost) × (m ≤ wordMost)
+      tabled-small = (nodes-small (t .ok), links-small (t .ok) m c)
 
-      pub write-numbers : (length parents ≤ wordMost) × (linksIn links ≤ wordMost)
-      write-numbers = (nodes-small net-taken, links-small net-taken (linksIn links) refl)
+      module _ (k : ℕ) (e : k ≡ blockCount (length parents) m * blockBytes) where
+        length-is : k ≡ fileLength g
+        unfolding fileLength netOf
+        length-is = e ∙ ap (λ j. blockCount (length parents) j * blockBytes) c
 
-      pub write-tabled : (entries : List ℕ) → entries ≡ tableRow g bareRow → Tabled g entries
-      unfolding tableRow
-      write-tabled entries q =
-          record {
-            ok = net-taken;
-            more = pastEntries (g .nodes) bareRow;
-            is = q ∙ rw (bare-verdict g Taken net-taken);
-          }
+        room-decides : writeVerdict g file ≡ refuseIf (ltb (length file) (fileLength g)) NoRoom 0
+        unfolding writeVerdict
+        room-decides = head-passes _ _ (t .ok) ∙ only-one _
 
-      pub length-is : (m : ℕ) → m ≡ linksIn links → (k : ℕ) → k ≡ blockCount (length parents) m * blockBytes → k ≡ fileLength g
-      unfolding fileLength netOf
-      length-is m c k e = e ∙ ap (λ j. blockCount (length parents) j * blockBytes) c
+        pub tabled-refused :
+            length file < k
+            → (Not (record { why = NoRoom; place = 0 }) ≡ writeAnswer g file)
+            × (file ≡ writtenRow g file)
+        unfolding writeAnswer writtenRow refuseIf
+        tabled-refused h =
+            let short : ltb (length file) (fileLength g) ≡ true = lt-ltb (length file) (fileLength g) (omega (arith, h, length-is)) in
+            (rw (room-decides, short), rw (room-decides, short))
 
-    module _ (v : Verdict) (q : v ≡ writeVerdict g file) where
-      pub write-taken :
-          v ≡ Taken
-          → (k : ℕ) → k ≡ fileLength g → (after : List ℕ)
-          → after ≡ fileOf g ++ drop (fileLength g) file
-          → (Is k ≡ writeAnswer g file)
-          × (after ≡ writtenRow g file)
-      unfolding writeAnswer writtenRow
-      write-taken t k e after p = (rw (← q, t, e), rw (← q, t) p)
+        pub tabled-room : k ≤ length file → fileLength g ≤ length file
+        tabled-room h = omega (arith, h, length-is)
 
-      pub write-refused :
-          (r : Refusal)
-          → v ≡ Refused r
-          → (Not r ≡ writeAnswer g file)
-          × (file ≡ writtenRow g file)
-      unfolding writeAnswer writtenRow
-      write-refused r t = (rw (← q, t), rw (← q, t))
+        pub tabled-written :
+            k ≤ length file
+            → (after : List ℕ)
+            → after ≡ fileOf g ++ drop (fileLength g) file
+            → (Is k ≡ writeAnswer g file)
+            × (after ≡ writtenRow g file)
+        unfolding writeAnswer writtenRow refuseIf
+        tabled-written h after p =
+            let long : ltb (length file) (fileLength g) ≡ false = le-ltb (length file) (fileLength g) (tabled-room h) in
+            (rw (room-decides, long) (ap Is length-is), rw (room-decides, long) p)

@@ -9,14 +9,14 @@ use lib.Seq.{sets}
 use Rattle.edition.specs.declared.Search.{Search}
 use Rattle.edition.specs.declared.Verdict.{Verdict}
 use Rattle.edition.specs.declared.Verdict.the-variants.{Taken}
-use Rattle.edition.specs.declared.Why.the-variants.{NoRoom, BadEntry}
-use Rattle.rows.specs.First.{refuseIf, refuseAt, firstly}
+use Rattle.edition.specs.declared.Why.the-variants.{BadLength, NoRoom, BadEntry}
+use Rattle.rows.specs.First.{refuseIf, refuseAt, firstly, verdictTo}
 use Rattle.edition.specs.Limits.{noLink, linkLimit}
 use Rattle.edition.specs.Stored.{editionLimits, blockBytes, frontBytes, headerKind, linksKind, headerBytes, linkBytes, entryBytes}
 use Rattle.rows.specs.Count.{rowsTo}
 use Rattle.rows.specs.Lists.{same}
 use Rattle.swap.specs.Entry.{entry}
-use Rattle.entries.specs.Row.{entryAt}
+use Rattle.entries.specs.Row.{entryRow, entryAt, pastEntries}
 use Rattle.network.specs.Network.{Net, linksIn, linkIn, linkRow, pastLinks}
 use Rattle.sound.specs.Sound.{netVerdict}
 use Rattle.table.specs.Table.{table}
@@ -26,7 +26,7 @@ use Rattle.archive.specs.declared.Part.{Part}
 use Rattle.network.specs.Records.{sizeVerdict}
 use Rattle.archive.specs.declared.Header.{Header}
 use Rattle.archive.specs.Parts.{blockCount, entryPlace}
-use Rattle.archive.specs.Reader.{nodesRead, linksRead, searchRead, headRead, storedLink}
+use Rattle.archive.specs.Reader.{nodesRead, linksRead, searchRead, headRead, storedLink, blockRefusal, headVerdict}
 
 -- bytes a record of a kind; what is neither header nor link is an entry
 unfoldable pub heldBytes : ℕ → ℕ
@@ -87,3 +87,22 @@ pub record Blocked (file : List ℕ) (head : Header) : Type 0 where
   pub is : head ≡ headRead file
   pub sized : sizeVerdict editionLimits (nodesRead file) (linksRead file) (searchRead file) ≡ Taken
   pub long : length file ≡ blockCount (nodesRead file) (linksRead file) * blockBytes
+
+-- the head, then the length, then block by block
+unfoldable pub blocksVerdict : List ℕ → Verdict
+blocksVerdict file =
+    let n = nodesRead file in
+    let m = linksRead file in
+    firstly
+    (headVerdict file ∷
+    refuseIf (not (eqb (length file) (blockCount n m * blockBytes))) BadLength 0 ∷
+    verdictTo (blockRefusal file n m) (blockCount n m) ∷ [])
+
+-- what the check of a file's records says, and where they are taken leaves in the row that it works in
+pub record Judged (file : List ℕ) (g : Net) (short : Bool) (v : Verdict) (row : List ℕ) : Type 0 where
+  pub is : v ≡ contentVerdict file g short
+  pub tabled : v ≡ Taken → Tabled g row
+
+-- a row that begins with the first n entries of another
+unfoldable pub copied : List ℕ → ℕ → List ℕ → List ℕ
+copied from n row = rowsTo (λ x. entryRow (entryAt from x)) n ++ pastEntries n row

@@ -2,15 +2,15 @@
 ghost use mathlib.Core.Path.{_≡_};
 ghost use Prim.Native.Nat.{_+_, _*_, _-_, _<_, _≤_, min};
 ghost use mathlib.Core.List.{_++_};
-ghost use lib.ListN.{length, take, drop};
-ghost use Rattle.edition.specs.Limits.{nodeLimit, linkLimit};
+ghost use lib.ListN.{length, take, drop, replicate};
+ghost use Rattle.edition.specs.Limits.{nodeLimit, linkLimit, entryRoom};
 ghost use Rattle.edition.specs.Stored.{blockBytes, entryBytes};
-ghost use Rattle.entries.specs.Row.{pastEntries};
+ghost use Rattle.entries.specs.Row.{entriesIn, pastEntries};
 ghost use Rattle.network.specs.Network.{netOf, linksIn, pastLinks};
-ghost use Rattle.sound.specs.Sound.{netVerdict};
 ghost use Rattle.numbers.specs.Bytes.{wordMost};
 ghost use Rattle.record.specs.Record.{recordPut};
-ghost use Rattle.archive.specs.Work.{heldBytes, recordBy, laid, Held, Tabled, linksFrom, parentNumber, badBy, badStored, Placed, contentVerdict, Blocked};
+ghost use Rattle.archive.specs.Work.{copied, heldBytes, recordBy, laid, Held, Tabled, linksFrom};
+ghost use Rattle.archive.specs.Work.{parentNumber, badBy, Placed, Blocked, Judged, blocksVerdict};
 ghost use Rattle.rows.specs.Count.{rowWith};
 ghost use Rattle.rows.specs.Lists.{same};
 ghost use Rattle.rows.specs.First.{firstTo, verdictTo};
@@ -271,18 +271,29 @@ pub fn check_write(links: &[u16], parents: &[u16], search: Search, file: &[u8]) 
     rows::refuse_if(file.len() < length, Why::NoRoom, 0)
 }
 
-// The file of a network that is sound and has room, and its length.
-fn write_sound(links: &[u16], parents: &[u16], search: Search, file: &mut [u8]) -> usize
-    requires { ⌜ writeVerdict (netOf (now links) (now parents) search) (now file) ≡ Taken ⌝ }
+// The file of a network whose table is lent, and its length; 10 where fewer bytes are lent than the file needs.
+fn write_tabled(
+    links: &[u16],
+    parents: &[u16],
+    search: Search,
+    entries: &[u64],
+    file: &mut [u8],
+) -> WriteAnswer
+    requires { ⌜ Tabled (netOf (now links) (now parents) search) (now entries) ⌝ }
     ensures { λ r.
         let g = netOf (now (links .entry)) (now (parents .entry)) search in
-        ⌜ (r ≡ fileLength g)
-        × (now (file .exit) ≡ fileOf g ++ drop (fileLength g) (now (file .entry))) ⌝ }
+        ⌜ (r ≡ writeAnswer g (now (file .entry)))
+        × (now (file .exit) ≡ writtenRow g (now (file .entry))) ⌝ }
 {
-    let mut entries = [0u64; Memory::ENTRY_ROW];
-    table::table(links, parents, search, &mut entries);
-    write_blocks(links, parents, search, &entries, file);
-    file_length(parents.len(), network::links_in(links))
+    let length = file_length(parents.len(), network::links_in(links));
+    if file.len() < length {
+        return WriteAnswer::Not(Refusal {
+            why: Why::NoRoom,
+            place: 0,
+        });
+    }
+    write_blocks(links, parents, search, entries, file);
+    WriteAnswer::Is(length)
 }
 
 // The file of a network and depth into lent bytes, and its length. Nothing is written on a refusal, nor past the file.
@@ -292,9 +303,10 @@ pub fn write(links: &[u16], parents: &[u16], search: Search, file: &mut [u8]) ->
         ⌜ (r ≡ writeAnswer g (now (file .entry)))
         × (now (file .exit) ≡ writtenRow g (now (file .entry))) ⌝ }
 {
-    let said = check_write(links, parents, search, file);
+    let mut entries = [0u64; Memory::ENTRY_ROW];
+    let said = table::table(links, parents, search, &mut entries);
     match said {
-        Verdict::Taken => WriteAnswer::Is(write_sound(links, parents, search, file)),
+        Verdict::Taken => write_tabled(links, parents, search, &entries, file),
         Verdict::Refused(why) => WriteAnswer::Not(why),
     }
 }
@@ -485,48 +497,38 @@ fn seek_bad_entry(file: &[u8], m: usize, parents: &[u16], entries: &[u64]) -> Fo
     found
 }
 
-// The lowest node whose stored entry is not the one worked out.
-fn first_bad_entry(file: &[u8], links: &[u16], parents: &[u16], search: Search) -> Found
-    requires { let g = netOf (now links) (now parents) search in
-        ⌜ (netVerdict g ≡ Taken)
-        × Placed (now file) (linksIn (now links)) (length (now parents)) ⌝ }
-    ensures { λ r.
-        let g = netOf (now (links .entry)) (now (parents .entry)) search in
-        ⌜ r ≡ firstTo (badStored (now (file .entry)) g) (length (now (parents .entry))) ⌝ }
-{
-    let mut entries = [0u64; Memory::ENTRY_ROW];
-    table::table(links, parents, search, &mut entries);
-    seek_bad_entry(file, network::links_in(links), parents, &entries)
-}
-
-// 5 to 9, then 10 where a lent row is too short, then 24, of a file and the rows that it holds.
+// 5 to 9, then 10 where a lent row is too short, then 24, of a file and the rows that it holds. A row of zeros is lent to work the
+// table out in.
 fn check_content(
     file: &[u8],
     links: &[u16],
     parents: &[u16],
     search: Search,
     short: bool,
+    worked: &mut [u64],
 ) -> Verdict
-    requires { ⌜ Placed (now file) (linksIn (now links)) (length (now parents)) ⌝ }
+    requires { ⌜ Placed (now file) (linksIn (now links)) (length (now parents))
+        × (now worked ≡ replicate entryRoom 0) ⌝ }
     ensures { λ r.
         let g = netOf (now (links .entry)) (now (parents .entry)) search in
-        ⌜ r ≡ contentVerdict (now (file .entry)) g short ⌝ }
+        ⌜ Judged (now (file .entry)) g short r (now (worked .exit)) ⌝ }
 {
-    let said = sound::check_network(links, parents, search);
-    let Checked::Sound(_) = said else {
-        return sound::handed_up(said);
+    let said = table::table(links, parents, search, worked);
+    let Verdict::Taken = said else {
+        return said;
     };
     let room = rows::refuse_if(short, Why::NoRoom, 0);
     let Verdict::Taken = room else {
         return room;
     };
-    rows::refused_at(Why::BadEntry, first_bad_entry(file, links, parents, search))
+    let bad = seek_bad_entry(file, network::links_in(links), parents, worked);
+    rows::refused_at(Why::BadEntry, bad)
 }
 
 // 5 to 9, 10 and 24, of a file whose length and blocks are right.
-fn check_records(file: &[u8], head: Header, short: bool) -> Verdict
-    requires { ⌜ Blocked (now file) head ⌝ }
-    ensures { λ r. ⌜ r ≡ contentVerdict (now (file .entry)) (netRead (now (file .entry))) short ⌝ }
+fn check_records(file: &[u8], head: Header, short: bool, worked: &mut [u64]) -> Verdict
+    requires { ⌜ Blocked (now file) head × (now worked ≡ replicate entryRoom 0) ⌝ }
+    ensures { λ r. ⌜ Judged (now (file .entry)) (netRead (now (file .entry))) short r (now (worked .exit)) ⌝ }
 {
     let n = head.nodes;
     let m = head.links;
@@ -540,6 +542,7 @@ fn check_records(file: &[u8], head: Header, short: bool) -> Verdict
         rows::first(&parents, n),
         head.search,
         short,
+        worked,
     )
 }
 
@@ -558,11 +561,9 @@ fn is_too_short(head: Header, links: &[u16], parents: &[u16], entries: &[u64]) -
     entries::entries_in(entries) < head.nodes
 }
 
-// Whether a file is accepted: refusals in the order for a file. Nothing is written.
-pub fn check_read(file: &[u8], links: &[u16], parents: &[u16], entries: &[u64]) -> Verdict
-    ensures { λ r.
-        let rows : Rows = record { links = now (links .entry); parents = now (parents .entry); entries = now (entries .entry) } in
-        ⌜ r ≡ readVerdict (now (file .entry)) rows ⌝ }
+// What is refused before the records are read: the head, then the length, then block by block.
+fn check_file(file: &[u8]) -> Verdict
+    ensures { λ r. ⌜ r ≡ blocksVerdict (now (file .entry)) ⌝ }
 {
     let first = check_head(file);
     let Verdict::Taken = first else {
@@ -574,37 +575,89 @@ pub fn check_read(file: &[u8], links: &[u16], parents: &[u16], entries: &[u64]) 
     let Verdict::Taken = long else {
         return long;
     };
-    let blocks = check_blocks(file, head.nodes, head.links);
-    let Verdict::Taken = blocks else {
-        return blocks;
-    };
-    check_records(file, head, is_too_short(head, links, parents, entries))
+    check_blocks(file, head.nodes, head.links)
 }
 
-// What an accepted file holds, at the beginning of the lent rows.
-fn fill_rows(file: &[u8], links: &mut [u16], parents: &mut [u16], entries: &mut [u64]) -> Header
-    requires { let rows : Rows = record { links = now links; parents = now parents; entries = now entries } in
-        ⌜ readVerdict (now file) rows ≡ Taken ⌝ }
+// Whether a file is accepted: refusals in the order for a file. Nothing is written.
+pub fn check_read(file: &[u8], links: &[u16], parents: &[u16], entries: &[u64]) -> Verdict
     ensures { λ r.
+        let rows : Rows = record { links = now (links .entry); parents = now (parents .entry); entries = now (entries .entry) } in
+        ⌜ r ≡ readVerdict (now (file .entry)) rows ⌝ }
+{
+    let first = check_file(file);
+    let Verdict::Taken = first else {
+        return first;
+    };
+    let head = header_of(file);
+    let short = is_too_short(head, links, parents, entries);
+    let mut worked = [0u64; Memory::ENTRY_ROW];
+    check_records(file, head, short, &mut worked)
+}
+
+// The first n entries of a row, at the beginning of another.
+fn copy_entries(from: &[u64], n: usize, row: &mut [u64])
+    requires { ⌜ n ≤ entriesIn (now row) ⌝ }
+    ensures { λ _. ⌜ now (row .exit) ≡ copied (now (from .entry)) n (now (row .entry)) ⌝ }
+{
+    let mut x = 0;
+    while x < n {
+        entries::put_entry(row, x, entries::entry_at(from, x));
+        x += 1;
+    }
+}
+
+// What an accepted file holds, at the beginning of the lent rows; its table is worked out already.
+fn fill_rows(
+    file: &[u8],
+    head: Header,
+    worked: &[u64],
+    links: &mut [u16],
+    parents: &mut [u16],
+    entries: &mut [u64],
+)
+    requires { let rows : Rows = record { links = now links; parents = now parents; entries = now entries } in
+        ⌜ (readVerdict (now file) rows ≡ Taken)
+        × (head ≡ headRead (now file))
+        × Tabled (netRead (now file)) (now worked) ⌝ }
+    ensures { λ _.
         let bytes = now (file .entry) in
         let n = nodesRead bytes in
-        ⌜ (r ≡ headRead bytes)
-        × (now (links .exit) ≡ linksHeld bytes ++ pastLinks (linksRead bytes) (now (links .entry)))
+        ⌜ (now (links .exit) ≡ linksHeld bytes ++ pastLinks (linksRead bytes) (now (links .entry)))
         × (now (parents .exit) ≡ parentsHeld bytes ++ drop n (now (parents .entry)))
         × (now (entries .exit) ≡ table (netRead bytes) ++ pastEntries n (now (entries .entry))) ⌝ }
 {
-    let head = header_of(file);
     let n = head.nodes;
     let m = head.links;
     fill_links(file, m, links);
     fill_parents(file, m, n, parents);
-    table::table(
-        network::first_links(links, m),
-        rows::first(parents, n),
-        head.search,
-        entries,
-    );
-    head
+    copy_entries(worked, n, entries);
+}
+
+// The rest of reading, of a file whose length and blocks are right.
+fn read_records(
+    file: &[u8],
+    links: &mut [u16],
+    parents: &mut [u16],
+    entries: &mut [u64],
+) -> ReadAnswer
+    requires { ⌜ blocksVerdict (now file) ≡ Taken ⌝ }
+    ensures { λ r.
+        let rows : Rows = record { links = now (links .entry); parents = now (parents .entry); entries = now (entries .entry) } in
+        let after = rowsRead (now (file .entry)) rows in
+        ⌜ (r ≡ readAnswer (now (file .entry)) rows)
+        × (now (links .exit) ≡ after .links)
+        × (now (parents .exit) ≡ after .parents)
+        × (now (entries .exit) ≡ after .entries) ⌝ }
+{
+    let head = header_of(file);
+    let short = is_too_short(head, links, parents, entries);
+    let mut worked = [0u64; Memory::ENTRY_ROW];
+    let said = check_records(file, head, short, &mut worked);
+    if let Verdict::Refused(why) = said {
+        return ReadAnswer::Not(why);
+    }
+    fill_rows(file, head, &worked, links, parents, entries);
+    ReadAnswer::Is(head)
 }
 
 // The rows of links, parents and entries that a file holds, and what its header says. Accepted is the one file of its network and
@@ -618,9 +671,9 @@ pub fn read(file: &[u8], links: &mut [u16], parents: &mut [u16], entries: &mut [
         × (now (parents .exit) ≡ after .parents)
         × (now (entries .exit) ≡ after .entries) ⌝ }
 {
-    let said = check_read(file, links, parents, entries);
-    match said {
-        Verdict::Taken => ReadAnswer::Is(fill_rows(file, links, parents, entries)),
+    let first = check_file(file);
+    match first {
+        Verdict::Taken => read_records(file, links, parents, entries),
         Verdict::Refused(why) => ReadAnswer::Not(why),
     }
 }

@@ -6,33 +6,34 @@ use Prim.Native.Nat.{ℕ, _<_, _≤_}
 use native.Mathlib.Omega.{arith}
 use lib.Dec.{leb}
 use lib.ListN.{length, getD, replicate, length-replicate}
-use borrow.Author.Tests.{leb-false, le-ltb}
+use borrow.Author.Tests.{leb-false}
 use Rattle.edition.specs.declared.Change.{Change}
 use Rattle.edition.specs.declared.Refusal.{Refusal}
 use Rattle.edition.specs.declared.Search.{Search}
 use Rattle.edition.specs.declared.Verdict.{Verdict}
 use Rattle.edition.specs.declared.Verdict.the-variants.{Taken, Refused}
-use Rattle.edition.specs.declared.Why.the-variants.{NoRoom, LinkMissing, BadMark, TreeLink, BreaksShort}
+use Rattle.edition.specs.declared.Why.the-variants.{LinkMissing, BadMark, TreeLink, BreaksShort}
 use Rattle.edition.specs.Limits.{nodeLimit, noLink}
 use Rattle.entries.specs.Row.{entriesIn, pastEntries}
 use Rattle.rows.specs.Count.{rowsTo}
 use Rattle.rows.specs.First.{refuseIf}
 use Rattle.rows.specs.Lists.{differ}
 use Rattle.rows.proofs.Records.{rows-cong}
-use Rattle.rows.proofs.Refusing.{head-taken, head-refuses, head-passes, both-taken, none-left, if-taken, if-passes, only-one}
+use Rattle.rows.proofs.Refusing.{head-taken, head-refuses, head-passes, if-taken, only-one}
 use Rattle.network.specs.declared.Link.{Link}
 use Rattle.network.specs.Network.{Net, linksIn, linkIn, netOf, isParent}
 use Rattle.network.specs.Records.{badMark}
 use Rattle.tree.specs.Tree.{treeOf, under}
 use Rattle.sound.specs.Sound.{netVerdict}
+use Rattle.sound.specs.Surveyed.{Surveyed}
 use Rattle.sound.proofs.Sounds.{taken}
 use Rattle.sound.proofs.Holding.{nodes-few, root-in, first-in, second-in, link-path}
-use Rattle.table.specs.Table.{isAsked, freshAt, freshRow, tableVerdict}
+use Rattle.table.specs.Table.{isAsked, freshAt, tableVerdict}
 use Rattle.table.specs.Work.{Moved}
 use Rattle.table.proofs.Whole.{table-room}
 use Rattle.change.specs.Change.{breaks, changeVerdict, setLink, mended, changed}
 use Rattle.change.specs.Work.{flip}
-use Rattle.change.proofs.Staying.{Allowed, allowed, still-sound}
+use Rattle.change.proofs.Staying.{Allowed, allowed, kept-tree, still-sound}
 use Rattle.change.proofs.Mending.{onWay, madeAt, mended-rows}
 use Rattle.change.proofs.Flipping.{turned-twice}
 
@@ -144,15 +145,6 @@ module _ (links parents : List ℕ) (search : Search) where
               (under (treeOf g) x (k .second))) is
               ∙ sym (link-path g (a .before) (c .link) x (a .there)))
 
-          fresh-taken : tableVerdict (netOf (setLink links c) parents search) entries ≡ Taken
-          unfolding tableVerdict netOf
-          fresh-taken =
-              both-taken _ _ (taken (netOf (setLink links c) parents search) (still-sound links parents search c a))
-              (both-taken _ _ (if-passes _ NoRoom 0 (le-ltb (entriesIn entries) (length parents) room)) none-left)
-            where
-              room : length parents ≤ entriesIn entries
-              room = table-room g entries Taken (sym table-taken) refl
-
           made-same :
               (x : ℕ)
               → isAsked asked x ≡ onWay links parents search c a x
@@ -161,34 +153,42 @@ module _ (links parents : List ℕ) (search : Search) where
           unfolding freshAt madeAt
           made-same x w = rw w
 
-          fresh-rows :
-              freshRow (netOf (setLink links c) parents search) asked entries
-              ≡ rowsTo (freshAt (netOf (setLink links c) parents search) asked entries) (length parents) ++ pastEntries
-              (length parents) entries
-          unfolding freshRow netOf
-          fresh-rows = rw fresh-taken
-
           pub apply-is :
               (links′ : List ℕ)
               → links′ ≡ setLink links c → (entries′ : List ℕ)
-              → entries′ ≡ freshRow (netOf links′ parents search) asked entries
+              → entries′
+              ≡ rowsTo (freshAt (netOf links′ parents search) asked entries) (length parents) ++ pastEntries (length parents) entries
               → (links′ ≡ setLink links c)
               × (entries′ ≡ mended g (netOf (setLink links c) parents search) (c .link) entries)
           apply-is links′ q entries′ e = (
             q,
             e
-                ∙ (ap (λ (k : List ℕ). freshRow (netOf k parents search) asked entries) q
-                ∙ (fresh-is ∙ sym (mended-rows links parents search c a entries))),
+                ∙ (ap
+                (λ (k : List ℕ). rowsTo (freshAt (netOf k parents search) asked entries) (length parents) ++ pastEntries (length parents) entries)
+                q
+                ∙ (ap (λ (r : List ℕ). r ++ pastEntries (length parents) entries) (rows-cong _ _ (length parents) same)
+                ∙ sym (mended-rows links parents search c a entries))),
           )
             where
               same : (x : ℕ) → x < length parents → freshAt (netOf (setLink links c) parents search) asked entries x ≡ madeAt links parents search c a entries x
               same x m = made-same x (marked-is x m)
 
-              fresh-is :
-                  freshRow (netOf (setLink links c) parents search) asked entries
-                  ≡ rowsTo (madeAt links parents search c a entries) (length parents) ++ pastEntries (length parents)
-                  entries
-              fresh-is = fresh-rows ∙ ap (λ (r : List ℕ). r ++ pastEntries (length parents) entries) (rows-cong _ _ (length parents) same)
+    pub apply-room : length parents ≤ entriesIn entries
+    unfolding netOf
+    apply-room = table-room g entries Taken (sym table-taken) refl
+
+    -- the survey of the network is that of the changed one
+    pub still-surveyed :
+        (survey : List ℕ) → Surveyed g survey → (links′ : List ℕ) → links′ ≡ setLink links c → Surveyed (netOf links′ parents search) survey
+    unfolding netOf
+    still-surveyed survey s links′ q =
+        rw q
+        (record {
+          taken = taken (netOf (setLink links c) parents search) (still-sound links parents search c a);
+          few = λ u. rw (kept-tree links parents search c a) (s .few u);
+          room = s .room;
+          each = λ x l. rw (kept-tree links parents search c a) (s .each x l);
+        })
 
   -- the change, one after the other
   module _ (entries : List ℕ) (c : Change) (v : Verdict) (is : v ≡ changeVerdict g entries c) where

@@ -3,28 +3,25 @@
 -- change. 13 is given exactly where the changed network would be refused by 9. Assumes nothing.
 use mathlib.Core.Path.{_≡_, refl, sym, subst, ap, _∙_}
 use mathlib.Core.Bool.{Bool, true, false}
-use mathlib.Core.List.{List, [], _∷_, _++_}
+use mathlib.Core.List.{List, [], _∷_}
 use Prim.Native.Nat.{ℕ, _<_, _≤_}
-use native.Mathlib.Omega.{arith}
-use lib.Dec.{eqb, leb, ltb}
+use lib.Dec.{leb}
 use lib.ListN.{length}
-use borrow.Author.Tests.{eqb-false, ne-eqb, leb-false, ltb-false}
+use borrow.Author.Tests.{ne-eqb, leb-false}
 use Rattle.edition.specs.declared.Change.{Change}
 use Rattle.edition.specs.declared.Refusal.{Refusal}
 use Rattle.edition.specs.declared.Search.{Search}
 use Rattle.edition.specs.declared.Verdict.{Verdict}
 use Rattle.edition.specs.declared.Verdict.the-variants.{Taken, Refused}
-use Rattle.edition.specs.declared.Why.the-variants.{BadMark, NotShort, NoRoom, LinkMissing, TreeLink, BreaksShort}
-use Rattle.edition.specs.Refusals.{numberOf, refused, ifTaken}
-use Rattle.rows.specs.Count.{rowsTo}
+use Rattle.edition.specs.declared.Why.the-variants.{BadMark, NotShort, LinkMissing, TreeLink, BreaksShort}
+use Rattle.edition.specs.Refusals.{numberOf, refused}
 use Rattle.rows.specs.First.{refuseIf, firstly}
 use Rattle.rows.specs.Lists.{has}
-use Rattle.rows.proofs.Numbered.{Gives, if-gives, passed}
+use Rattle.rows.proofs.Numbered.{if-gives, passed}
 use Rattle.rows.proofs.Refusing.{head-taken, rest-taken, both-taken, none-left, head-passes, if-taken, if-passes, only-one}
-use Rattle.rows.proofs.Tests.{clash}
 use Rattle.entries.specs.Row.{entryRow, entriesIn, standing, pastEntries}
 use Rattle.entries.proofs.Keeping.{rows-past}
-use Rattle.network.specs.Network.{Net, netOf, linksIn, linkIn, isParent}
+use Rattle.network.specs.Network.{Net, netOf, linkIn, isParent}
 use Rattle.network.specs.Records.{badMark}
 use Rattle.tree.specs.Tree.{treeOf, onPath}
 use Rattle.sound.specs.Sound.{netVerdict}

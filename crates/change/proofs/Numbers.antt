@@ -1,5 +1,5 @@
 -- Which of SCOPE's numbers a change can give, and no other. Assumes nothing.
-use mathlib.Core.Path.{_≡_, refl}
+use mathlib.Core.Path.{refl}
 use mathlib.Core.List.{List, [], _∷_, _++_}
 use Prim.Native.Nat.{ℕ}
 use Rattle.edition.specs.declared.Change.{Change}

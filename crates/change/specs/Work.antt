@@ -1,9 +1,13 @@
 -- What private functions of this crate promise each other. No public promise cites this page. Assumes nothing.
 use mathlib.Core.Bool.{cond}
 use mathlib.Core.List.{List}
-use Prim.Native.Nat.{ℕ}
+use Prim.Native.Nat.{ℕ, _<_}
 use lib.Dec.{eqb}
 use lib.ListN.{getD, set}
+use Rattle.edition.specs.declared.Change.{Change}
+use Rattle.edition.specs.declared.Search.{Search}
+use Rattle.network.specs.Network.{netOf, linksIn}
+use Rattle.sound.specs.Surveyed.{Surveyed}
 
 -- the other of 0 and 1
 unfoldable pub flip : ℕ → ℕ
@@ -12,3 +16,8 @@ flip a = cond (eqb a 0) 1 0
 -- a row in which the mark of c is the other one
 unfoldable pub flippedAt : ℕ → List ℕ → List ℕ
 flippedAt c row = set row c (flip (getD row c 0))
+
+-- a surveyed network that has the link of a change
+pub record Short (links parents : List ℕ) (search : Search) (survey : List ℕ) (c : Change) : Type 0 where
+  pub surveyed : Surveyed (netOf links parents search) survey
+  pub there : c .link < linksIn links

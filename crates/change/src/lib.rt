@@ -1,14 +1,19 @@
 // The change of one link outside the tree: its verdict, its application, and one after the other.
 ghost use mathlib.Core.Path.{_≡_};
-ghost use Prim.Native.Nat.{_<_, _≤_};
+ghost use mathlib.Core.List.{List};
+ghost use Prim.Native.Nat.{ℕ, _<_, _≤_};
 ghost use lib.ListN.{length};
+ghost use Rattle.edition.specs.declared.Search.{Search};
+ghost use Rattle.edition.specs.Limits.{nodeLimit};
 ghost use Rattle.edition.specs.declared.Verdict.the-variants.{Taken};
-ghost use Rattle.network.specs.Network.{netOf, linksIn};
+ghost use Rattle.network.specs.Network.{netOf};
 ghost use Rattle.tree.specs.Tree.{treeOf, under};
+ghost use Rattle.survey.specs.Row.{nodesIn};
 ghost use Rattle.sound.specs.Sound.{netVerdict};
+ghost use Rattle.sound.specs.Surveyed.{Surveyed, soundRow};
 ghost use Rattle.table.specs.Work.{Moved};
 ghost use Rattle.change.specs.Change.{breaks, changeVerdict, setLink, mended, Lent, changed};
-ghost use Rattle.change.specs.Work.{flip, flippedAt};
+ghost use Rattle.change.specs.Work.{flip, flippedAt, Short};
 use edition::Change;
 use edition::Edition;
 use edition::Memory;
@@ -17,38 +22,40 @@ use edition::Verdict;
 use edition::Why;
 use network::Link;
 
-// Whether the change sets a link in service whose new length breaks shortness.
-fn breaks_short(links: &[u16], parents: &[u16], search: Search, change: Change) -> bool
-    requires { let g = netOf (now links) (now parents) search in
-        ⌜ (netVerdict g ≡ Taken)
-        × (change .link < linksIn (now links)) ⌝ }
-    ensures { λ r. ⌜ r ≡ breaks (netOf (now (links .entry)) (now (parents .entry)) search) change ⌝ }
+// Whether the change sets a link in service whose new length breaks shortness, by a survey of the network.
+fn breaks_short(links: &[u16], survey: &[u64], change: Change) -> bool
+    requires { ⌜ ((parents : List ℕ) × (search : Search) × Short (now links) parents search (now survey) change) ⌝ }
+    ensures { λ r.
+        ⌜ ((parents : List ℕ) (search : Search)
+        → Short (now (links .entry)) parents search (now (survey .entry)) change
+        → r ≡ breaks (netOf (now (links .entry)) parents search) change) ⌝ }
 {
     if change.mark != Edition::SERVED {
         return false;
     }
-    let mut row = [0u64; Memory::NODES];
-    tree::distances(links, parents, search, &mut row);
     let l = network::link_at(links, change.link as usize);
-    let p = rows::wide_at(&row, l.first as usize);
-    let q = rows::wide_at(&row, l.second as usize);
-    !sound::keeps_short(p, q, change.length)
+    let p = survey::known_at(survey, l.first as usize);
+    let q = survey::known_at(survey, l.second as usize);
+    !sound::keeps_short(p.near, q.near, change.length)
 }
 
-// Whether a change is taken: 1 to 10, 11, 6 with the changed link as its place, 12, 13. Nothing is written.
-pub fn check_change(
+// Whether a change is taken, and in a row to work in the survey of the network.
+fn judge(
     links: &[u16],
     parents: &[u16],
     search: Search,
+    survey: &mut [u64],
     entries: &[u64],
     change: Change,
 ) -> Verdict
+    requires { ⌜ nodeLimit ≤ nodesIn (now survey) ⌝ }
     ensures { λ r.
         let g = netOf (now (links .entry)) (now (parents .entry)) search in
-        ⌜ r ≡ changeVerdict g (now (entries .entry)) change ⌝ }
+        ⌜ (r ≡ changeVerdict g (now (entries .entry)) change)
+        × (now (survey .exit) ≡ soundRow g (now (survey .entry))) ⌝ }
 {
     let e = change.link as usize;
-    let table = table::check_table(links, parents, search, entries);
+    let table = table::survey_table(links, parents, search, survey, entries);
     let Verdict::Taken = table else {
         return table;
     };
@@ -64,11 +71,23 @@ pub fn check_change(
     let Verdict::Taken = spare else {
         return spare;
     };
-    rows::refuse_if(
-        breaks_short(links, parents, search, change),
-        Why::BreaksShort,
-        e,
-    )
+    rows::refuse_if(breaks_short(links, survey, change), Why::BreaksShort, e)
+}
+
+// Whether a change is taken: 1 to 10, 11, 6 with the changed link as its place, 12, 13. Nothing is written.
+pub fn check_change(
+    links: &[u16],
+    parents: &[u16],
+    search: Search,
+    entries: &[u64],
+    change: Change,
+) -> Verdict
+    ensures { λ r.
+        let g = netOf (now (links .entry)) (now (parents .entry)) search in
+        ⌜ r ≡ changeVerdict g (now (entries .entry)) change ⌝ }
+{
+    let mut survey = [0u64; survey::ROW];
+    judge(links, parents, search, &mut survey, entries, change)
 }
 
 // The other of 0 and 1.
@@ -124,9 +143,18 @@ fn set_link(links: &mut [u16], e: usize, length: u16, mark: u16)
 }
 
 // Makes a change that is taken: the record, and afresh the entries of the nodes whose tree link lies on the tree path between the
-// link's ends.
-fn apply(links: &mut [u16], parents: &[u16], search: Search, entries: &mut [u64], change: Change)
-    requires { ⌜ changeVerdict (netOf (now links) (now parents) search) (now entries) change ≡ Taken ⌝ }
+// link's ends. The survey of the network is that of the changed one too, since the tree stays.
+fn apply(
+    links: &mut [u16],
+    parents: &[u16],
+    search: Search,
+    survey: &[u64],
+    entries: &mut [u64],
+    change: Change,
+)
+    requires { let g = netOf (now links) (now parents) search in
+        ⌜ (changeVerdict g (now entries) change ≡ Taken)
+        × Surveyed g (now survey) ⌝ }
     ensures { λ _.
         let g = netOf (now (links .entry)) (now (parents .entry)) search in
         let links′ = setLink (now (links .entry)) change in
@@ -139,7 +167,7 @@ fn apply(links: &mut [u16], parents: &[u16], search: Search, entries: &mut [u64]
     flip_up(links, parents, search, &mut asked, l.first as usize);
     flip_up(links, parents, search, &mut asked, l.second as usize);
     set_link(links, change.link as usize, change.length, change.mark);
-    table::refresh(links, parents, search, &asked, entries);
+    table::refresh_surveyed(links, parents, search, survey, &asked, entries);
 }
 
 // The change of one link. Refused, it changes nothing lent. Taken, it changes that link's record alone, and the table that was
@@ -159,10 +187,11 @@ pub fn change(
         × (now (links .exit) ≡ after .links)
         × (now (entries .exit) ≡ after .entries) ⌝ }
 {
-    let said = check_change(links, parents, search, entries, change);
+    let mut survey = [0u64; survey::ROW];
+    let said = judge(links, parents, search, &mut survey, entries, change);
     let Verdict::Taken = said else {
         return said;
     };
-    apply(links, parents, search, entries, change);
+    apply(links, parents, search, &survey, entries, change);
     Verdict::Taken
 }

@@ -11,9 +11,17 @@ use Rattle.edition.proofs.Only.{One, one}
 pub one-entries-in : (row : List ℕ) → One (entriesIn row)
 one-entries-in row = one _
 
+-- `entries::entry_there`
+pub one-entry-there : (row : List ℕ) (x : ℕ) → One (entryAt row x)
+one-entry-there row x = one _
+
 -- `entries::entry_at`
 pub one-entry-at : (row : List ℕ) (x : ℕ) → One (entryAt row x)
 one-entry-at row x = one _
+
+-- `entries::put_there`
+pub one-put-there : (row : List ℕ) (x : ℕ) (e : Entry) → One (putEntry row x e)
+one-put-there row x e = one _
 
 -- `entries::put_entry`
 pub one-put-entry : (row : List ℕ) (x : ℕ) (e : Entry) → One (putEntry row x e)

@@ -1,7 +1,7 @@
 // Entries in a lent row, a record each. How an entry lies in memory is known here and nowhere else.
 ghost use mathlib.Core.Path.{_≡_};
 ghost use mathlib.Core.List.{[]};
-ghost use Prim.Native.Nat.{_*_, min};
+ghost use Prim.Native.Nat.{_*_, _<_, min};
 ghost use Rattle.edition.specs.Limits.{nodeLimit, entryWidth};
 ghost use Rattle.entries.specs.Row.{entriesIn, entryFrom, entryAt, putEntry, pastEntries};
 use edition::Entry;
@@ -28,13 +28,11 @@ fn no_entry() -> Entry
     }
 }
 
-// The entry of node x; every number is 0 where the row holds none.
-pub fn entry_at(row: &[u64], x: usize) -> Entry
+// The entry of a node that the row holds one of.
+pub fn entry_there(row: &[u64], x: usize) -> Entry
+    requires { ⌜ x < entriesIn (now row) ⌝ }
     ensures { λ r. ⌜ r ≡ entryAt (now (row .entry)) x ⌝ }
 {
-    if row.len() / Memory::ENTRY <= x {
-        return no_entry();
-    }
     let at = x * Memory::ENTRY;
     let sum = Swap {
         link: row[at + 1],
@@ -56,13 +54,21 @@ pub fn entry_at(row: &[u64], x: usize) -> Entry
     }
 }
 
-// Writes the entry of node x; nothing where the row holds none.
-pub fn put_entry(row: &mut [u64], x: usize, e: Entry)
-    ensures { λ _. ⌜ now (row .exit) ≡ putEntry (now (row .entry)) x e ⌝ }
+// The entry of node x; every number is 0 where the row holds none.
+pub fn entry_at(row: &[u64], x: usize) -> Entry
+    ensures { λ r. ⌜ r ≡ entryAt (now (row .entry)) x ⌝ }
 {
     if row.len() / Memory::ENTRY <= x {
-        return;
+        return no_entry();
     }
+    entry_there(row, x)
+}
+
+// Writes the entry of a node that the row holds one of.
+pub fn put_there(row: &mut [u64], x: usize, e: Entry)
+    requires { ⌜ x < entriesIn (now row) ⌝ }
+    ensures { λ _. ⌜ now (row .exit) ≡ putEntry (now (row .entry)) x e ⌝ }
+{
     let at = x * Memory::ENTRY;
     row[at] = e.state;
     row[at + 1] = e.sum.link;
@@ -71,6 +77,16 @@ pub fn put_entry(row: &mut [u64], x: usize, e: Entry)
     row[at + 4] = e.sum.cost;
     row[at + 5] = e.incr.cost;
     row[at + 6] = e.max.cost;
+}
+
+// Writes the entry of node x; nothing where the row holds none.
+pub fn put_entry(row: &mut [u64], x: usize, e: Entry)
+    ensures { λ _. ⌜ now (row .exit) ≡ putEntry (now (row .entry)) x e ⌝ }
+{
+    if row.len() / Memory::ENTRY <= x {
+        return;
+    }
+    put_there(row, x, e);
 }
 
 // What lies past the first n entries: that part of the lent row.

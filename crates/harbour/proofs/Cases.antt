@@ -12,9 +12,9 @@ use Rattle.rows.specs.First.{orHere, firstTo, foundOr, refusedAt, refuseAt, ref
 use Rattle.rows.specs.Lists.{has, upTo, firstOf, total, same}
 use Rattle.network.specs.Network.{linkRow, linkFrom, linkIn, putLink, netOf, isParent, inService, touches, otherEnd}
 use Rattle.network.specs.Records.{badNodes, badLinks, badRoot, badDepth, sizeVerdict, badEnds, badMark, unfit, badParent}
-use Rattle.tree.specs.Tree.{treeOf, climb, route, arrives, hasRoute, dist, under, hops, wayUp, meet, apart, onPath}
+use Rattle.tree.specs.Tree.{treeOf, climb, route, arrives, hasRoute, dist, under, hops, wayUp, meet, apart, onPath, inside}
 use Rattle.sound.specs.Sound.{noRoute, keepsShort, short, notShort, recordVerdict, netVerdict, checked}
-use Rattle.swap.specs.Swap.{innerEnd, outerEnd, crosses, within, candidate, newDist, inside, cost, costOf, before, best}
+use Rattle.swap.specs.Swap.{innerEnd, outerEnd, crosses, within, candidate, newDist, cost, costOf, before, best}
 use Rattle.swap.specs.Entry.{crossed, hasCandidate, state, priced, swapOf, entry}
 use Rattle.rows.specs.Records.{recordIn, withRecord, pastRecords}
 use Rattle.entries.specs.Row.{entryRow, standing, pastEntries}

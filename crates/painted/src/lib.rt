@@ -294,6 +294,28 @@ pub extern "C" fn painted_survey(
 }
 
 #[no_mangle]
+pub extern "C" fn painted_fill(
+    links: &[u16],
+    parents: &[u16],
+    root: u16,
+    depth: u16,
+    survey: &mut [u64],
+) -> u64 {
+    said(survey::fill(links, parents, Search { root, depth }, survey))
+}
+
+#[no_mangle]
+pub extern "C" fn painted_survey_network(
+    links: &[u16],
+    parents: &[u16],
+    root: u16,
+    depth: u16,
+    survey: &mut [u64],
+) -> u64 {
+    said(sound::survey_network(links, parents, Search { root, depth }, survey))
+}
+
+#[no_mangle]
 pub extern "C" fn painted_check_network(
     links: &[u16],
     parents: &[u16],

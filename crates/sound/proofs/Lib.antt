@@ -5,3 +5,5 @@ pub mod Shortness
 pub mod Handing
 pub mod Numbers
 pub mod Outcomes
+pub mod Plain
+pub mod Surveying

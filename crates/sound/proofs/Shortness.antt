@@ -4,7 +4,7 @@ use mathlib.Core.Bool.{Bool, true, false, _&&_}
 use mathlib.Core.List.{List}
 use Prim.Native.Nat.{ℕ, _+_, _-_, _<_, _≤_}
 use native.Mathlib.Omega.{arith}
-use lib.Dec.{eqb, leb}
+use lib.Dec.{leb}
 use lib.ListN.{length}
 use borrow.Author.Tests.{leb-true, leb-false, le-leb, lt-leb}
 use Rattle.edition.specs.declared.Verdict.{Verdict}
@@ -13,24 +13,22 @@ use Rattle.edition.specs.declared.Found.{Found}
 use Rattle.edition.specs.declared.Refusal.{Refusal}
 use Rattle.edition.specs.declared.Search.{Search}
 use Rattle.edition.specs.declared.Why.the-variants.{NoRoute, NotShort}
-use Rattle.edition.specs.Limits.{nodeLimit, memoryLimits}
+use Rattle.edition.specs.Limits.{nodeLimit}
 use Rattle.edition.specs.Refusals.{ifTaken}
 use Rattle.rows.specs.Count.{rowWith}
 use Rattle.rows.specs.First.{firstTo, refusedAt, refuseAt}
-use Rattle.rows.proofs.Tests.{or3-false}
 use Rattle.rows.proofs.Best.{first-cong}
 use Rattle.rows.proofs.Filling.{filled-at}
 use Rattle.rows.proofs.Refusing.{head-refuses, head-passes, only-one}
 use Rattle.network.specs.Network.{Net, linksIn, linkIn, netOf}
-use Rattle.network.specs.Records.{badNodes, badEnds}
 use Rattle.tree.specs.Tree.{treeOf, dist}
-use Rattle.tree.specs.Answers.{distanceRow}
-use Rattle.tree.proofs.Answering.{few-nodes, room-passes}
+use Rattle.tree.proofs.Answering.{few-nodes}
 use Rattle.survey.specs.Survey.{routeless, closedVerdict, surveyVerdict, surveyRow}
 use Rattle.survey.proofs.Surveyed.{closed-passes, survey-is}
 use Rattle.sound.specs.Sound.{noRoute, keepsShort, short, notShort}
 use Rattle.sound.specs.Work.{breaksBy, Passed, treeVerdict}
 use Rattle.sound.proofs.Closing.{parent-node}
+use Rattle.sound.proofs.Plain.{passed-ends}
 
 -- the two inequalities by the difference of the distances
 pub short-more : (p q w : ℕ) → p < q → leb (q - p) w ≡ keepsShort p q w
@@ -53,26 +51,10 @@ module _ (links parents : List ℕ) (search : Search) where
   abbrev g : Net
   g = netOf links parents search
 
-  -- the row of distances, of a network within the limit
-  pub filled-row :
-      (row after : List ℕ)
-      → badNodes memoryLimits (length parents) ≡ false → length row ≡ nodeLimit
-      → after ≡ distanceRow g row
-      → after ≡ rowWith (dist (treeOf g)) (length parents) row
-  unfolding distanceRow netOf
-  filled-row row after small room q =
-      let t = room-passes (length parents) (length row) small (omega (arith, few-nodes (length parents) small)) in
-      q ∙ rw t
-
   module _ (passed : Passed g) (row : List ℕ) (room : length row ≡ nodeLimit) where
-    -- both ends of a link are nodes
     ends-in : (e : ℕ) → e < linksIn links → (linkIn links e .first < length parents) × (linkIn links e .second < length parents)
-    unfolding badEnds netOf
-    ends-in e l =
-        let say =
-        or3-false (leb (length parents) (linkIn links e .first)) (leb (length parents) (linkIn links e .second))
-        (eqb (linkIn links e .first) (linkIn links e .second)) (passed .ends-ok e l) in
-        (leb-false (length parents) (linkIn links e .first) (say .0), leb-false (length parents) (linkIn links e .second) (say .1))
+    unfolding netOf
+    ends-in e l = passed-ends g passed e l
 
     breaks-is :
         (e : ℕ) → e < linksIn links

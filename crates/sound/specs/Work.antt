@@ -7,11 +7,14 @@ use lib.ListN.{getD}
 use Rattle.edition.specs.declared.Verdict.{Verdict}
 use Rattle.edition.specs.declared.Why.the-variants.{NoRoute, NotShort}
 use Rattle.edition.specs.Limits.{memoryLimits}
+use Rattle.edition.specs.Refusals.{ifTaken}
 use Rattle.rows.specs.First.{refuseAt, firstly}
 use Rattle.network.specs.declared.Link.{Link}
-use Rattle.network.specs.Network.{Net, inService}
+use Rattle.network.specs.Network.{Net, linksIn, linkIn, inService}
 use Rattle.network.specs.Records.{badNodes, badRoot, badEnds, badParent}
+use Rattle.survey.specs.Row.{knownAt}
 use Rattle.sound.specs.Sound.{noRoute, keepsShort, notShort}
+use Rattle.sound.specs.Surveyed.{surveyOf}
 
 -- the link is in service and breaks shortness, by a row of distances
 unfoldable pub breaksBy : List ℕ → Link → Bool
@@ -28,3 +31,16 @@ pub record Passed (g : Net) : Type 0 where
 unfoldable pub treeVerdict : Net → Verdict
 treeVerdict g =
     firstly (refuseAt (noRoute g) (g .nodes) NoRoute ∷ refuseAt (notShort g) (g .links) NotShort ∷ [])
+
+-- the link is in service and breaks shortness, by a survey
+unfoldable pub breaksIn : List ℕ → Link → Bool
+breaksIn row l = inService l && not (keepsShort (knownAt row (l .first) .near) (knownAt row (l .second) .near) (l .length))
+
+-- both ends of each link are below k
+pub record Ended (links : List ℕ) (k : ℕ) : Type 0 where
+  pub first-low : (e : ℕ) → e < linksIn links → linkIn links e .first < k
+  pub second-low : (e : ℕ) → e < linksIn links → linkIn links e .second < k
+
+-- the row with the survey of a network in which every node has a route, as it was of any other
+unfoldable pub treeRow : Net → List ℕ → List ℕ
+treeRow g row = ifTaken (refuseAt (noRoute g) (g .nodes) NoRoute) (surveyOf g row) row

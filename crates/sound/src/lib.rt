@@ -1,13 +1,13 @@
 // The check of a network and its tree: refusals 8 and 9, and 1 to 9 in their order.
 ghost use mathlib.Core.Path.{_≡_};
-ghost use mathlib.Core.Bool.{false};
-ghost use lib.ListN.{length};
-ghost use Rattle.edition.specs.Limits.{memoryLimits};
+ghost use Prim.Native.Nat.{_<_, _≤_};
+ghost use Rattle.edition.specs.Limits.{nodeLimit};
 ghost use Rattle.rows.specs.First.{firstTo};
 ghost use Rattle.network.specs.Network.{linksIn, linkIn, netOf};
-ghost use Rattle.network.specs.Records.{badNodes, badRoot};
-ghost use Rattle.sound.specs.Sound.{keepsShort, recordVerdict, netVerdict, checked, handedUp};
-ghost use Rattle.sound.specs.Work.{breaksBy, Passed, treeVerdict};
+ghost use Rattle.survey.specs.Row.{nodesIn};
+ghost use Rattle.sound.specs.Sound.{keepsShort, netVerdict, checked, handedUp};
+ghost use Rattle.sound.specs.Surveyed.{plainVerdict, soundVerdict, soundRow};
+ghost use Rattle.sound.specs.Work.{breaksBy, Passed, treeVerdict, breaksIn, Ended, treeRow};
 use edition::Found;
 use edition::Memory;
 use edition::Refusal;
@@ -81,34 +81,11 @@ fn check_tree(links: &[u16], parents: &[u16], search: Search) -> Verdict
     rows::refused_at(Why::NotShort, first_breaking(links, &row))
 }
 
-// Refusals 5 to 9, of the records.
-fn check_records(links: &[u16], parents: &[u16], search: Search) -> Verdict
-    requires { ⌜ (badNodes memoryLimits (length (now parents)) ≡ false)
-        × (badRoot (length (now parents)) (search .root) ≡ false) ⌝ }
+// Refusals 1 to 7, in their order.
+fn check_plain(links: &[u16], parents: &[u16], search: Search) -> Verdict
     ensures { λ r.
         let g = netOf (now (links .entry)) (now (parents .entry)) search in
-        ⌜ r ≡ recordVerdict g ⌝ }
-{
-    let ends = network::check_ends(links, parents.len());
-    let Verdict::Taken = ends else {
-        return ends;
-    };
-    let marks = network::check_marks(links);
-    let Verdict::Taken = marks else {
-        return marks;
-    };
-    let named = network::check_parents(links, parents, search);
-    let Verdict::Taken = named else {
-        return named;
-    };
-    check_tree(links, parents, search)
-}
-
-// Refusals 1 to 9, in their order.
-fn verdict(links: &[u16], parents: &[u16], search: Search) -> Verdict
-    ensures { λ r.
-        let g = netOf (now (links .entry)) (now (parents .entry)) search in
-        ⌜ r ≡ netVerdict g ⌝ }
+        ⌜ r ≡ plainVerdict g ⌝ }
 {
     let sizes = network::check_sizes(
         Memory::limits(),
@@ -119,7 +96,28 @@ fn verdict(links: &[u16], parents: &[u16], search: Search) -> Verdict
     let Verdict::Taken = sizes else {
         return sizes;
     };
-    check_records(links, parents, search)
+    let ends = network::check_ends(links, parents.len());
+    let Verdict::Taken = ends else {
+        return ends;
+    };
+    let marks = network::check_marks(links);
+    let Verdict::Taken = marks else {
+        return marks;
+    };
+    network::check_parents(links, parents, search)
+}
+
+// Refusals 1 to 9, in their order.
+fn verdict(links: &[u16], parents: &[u16], search: Search) -> Verdict
+    ensures { λ r.
+        let g = netOf (now (links .entry)) (now (parents .entry)) search in
+        ⌜ r ≡ netVerdict g ⌝ }
+{
+    let plain = check_plain(links, parents, search);
+    let Verdict::Taken = plain else {
+        return plain;
+    };
+    check_tree(links, parents, search)
 }
 
 // The check of a network and its tree: sound, with its sizes, or the first refusal of 1 to 9.
@@ -146,4 +144,69 @@ pub fn handed_up(said: Checked) -> Verdict
         Checked::Sound(_) => Verdict::Taken,
         Checked::Unsound(why) => Verdict::Refused(why),
     }
+}
+
+// Whether the link is in service and breaks shortness, by a survey.
+fn breaks_in(survey: &[u64], l: Link) -> bool
+    requires { ⌜ (l .first < nodesIn (now survey)) × (l .second < nodesIn (now survey)) ⌝ }
+    ensures { λ r. ⌜ r ≡ breaksIn (now (survey .entry)) l ⌝ }
+{
+    if !network::in_service(l) {
+        return false;
+    }
+    let p = survey::known_at(survey, l.first as usize);
+    let q = survey::known_at(survey, l.second as usize);
+    !keeps_short(p.near, q.near, l.length)
+}
+
+// The lowest link that breaks shortness, by a survey.
+fn first_breaking_in(links: &[u16], survey: &[u64]) -> Found
+    requires { ⌜ Ended (now links) (nodesIn (now survey)) ⌝ }
+    ensures { λ r.
+        ⌜ r ≡ firstTo (λ e. breaksIn (now (survey .entry)) (linkIn (now (links .entry)) e)) (linksIn (now (links .entry))) ⌝ }
+{
+    let m = network::links_in(links);
+    let mut found = Found::Nothing;
+    let mut e = 0;
+    while e < m {
+        found = rows::or_here(found, breaks_in(survey, network::link_at(links, e)), e);
+        e += 1;
+    }
+    found
+}
+
+// Refusals 8 and 9, and a survey of the nodes.
+fn survey_tree(links: &[u16], parents: &[u16], search: Search, survey: &mut [u64]) -> Verdict
+    requires { let g = netOf (now links) (now parents) search in
+        ⌜ Passed g
+        × (nodeLimit ≤ nodesIn (now survey)) ⌝ }
+    ensures { λ r.
+        let g = netOf (now (links .entry)) (now (parents .entry)) search in
+        ⌜ (r ≡ treeVerdict g)
+        × (now (survey .exit) ≡ treeRow g (now (survey .entry))) ⌝ }
+{
+    let walked = survey::fill(links, parents, search, survey);
+    let Verdict::Taken = walked else {
+        return walked;
+    };
+    rows::refused_at(Why::NotShort, first_breaking_in(links, survey))
+}
+
+// The check of a network and its tree, 1 to 9, and in a lent row the survey of its nodes, which stands there where 1 to 8 refuse
+// nothing. Before all of these 10, where the row holds fewer records than memory has nodes.
+pub fn survey_network(links: &[u16], parents: &[u16], search: Search, survey: &mut [u64]) -> Verdict
+    ensures { λ r.
+        let g = netOf (now (links .entry)) (now (parents .entry)) search in
+        ⌜ (r ≡ soundVerdict g (now (survey .entry)))
+        × (now (survey .exit) ≡ soundRow g (now (survey .entry))) ⌝ }
+{
+    let room = rows::refuse_if(survey::nodes_in(survey) < Memory::NODES, Why::NoRoom, 0);
+    let Verdict::Taken = room else {
+        return room;
+    };
+    let records = check_plain(links, parents, search);
+    let Verdict::Taken = records else {
+        return records;
+    };
+    survey_tree(links, parents, search, survey)
 }

@@ -1,3 +1,4 @@
+pub mod Records
 pub mod Free
 pub mod Placing
 pub mod Settling
@@ -7,4 +8,18 @@ pub mod Down
 pub mod Nexts
 pub mod Routed
 pub mod Surveyed
+pub mod Holding
+pub mod Seen
+pub mod Folding
+pub mod Arriving
+pub mod Inside
+pub mod Besides
+pub mod Largest
+pub mod Stems
+pub mod Beginning
+pub mod Raising
+pub mod Siding
+pub mod Turning
+pub mod Making
+pub mod Filled
 pub mod Outcomes

@@ -1,2 +1,4 @@
+pub mod Known
+pub mod Row
 pub mod Survey
 pub mod Work

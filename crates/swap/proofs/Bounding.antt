@@ -14,17 +14,18 @@ use Rattle.edition.specs.Limits.{longest, wayLimit, sumLimit}
 use Rattle.rows.proofs.Tests.{not-so}
 use Rattle.rows.proofs.Counting.{max-bound, sum-but-one}
 use Rattle.network.specs.Network.{Net}
-use Rattle.tree.specs.Tree.{treeOf, dist, under}
+use Rattle.tree.specs.Tree.{treeOf, dist, under, inside}
 use Rattle.tree.proofs.Ways.{above-root}
 use Rattle.tree.proofs.Bounded.{around-bound}
 use Rattle.tree.proofs.Made.{rise-flat, rise-held}
 use Rattle.sound.proofs.Sounds.{Sound}
 use Rattle.sound.proofs.Holding.{nodes-few, root-in, first-in, second-in, home, up-in}
-use Rattle.swap.specs.Swap.{innerEnd, outerEnd, crosses, newDist, inside, cost, costOf, best}
+use Rattle.survey.proofs.Inside.{inside-small, inside-out}
+use Rattle.swap.specs.Swap.{innerEnd, outerEnd, crosses, newDist, cost, costOf, best}
 use Rattle.swap.specs.Entry.{priced, swapOf, entry}
 use Rattle.swap.proofs.Choosing.{chosen}
 use Rattle.swap.proofs.Stating.{candidate-crosses, entry-root, entry-own}
-use Rattle.swap.proofs.Costing.{inside-small, inside-out, crossing-splits, of-inner, of-outer}
+use Rattle.swap.proofs.Costing.{crossing-splits, of-inner, of-outer}
 
 -- the limits in figures
 pub way-limit : wayLimit ≡ 33488385

@@ -8,32 +8,19 @@ use native.Mathlib.Omega.{arith}
 use lib.Dec.{eqb, leb}
 use borrow.Author.Tests.{leb-true}
 use Rattle.edition.specs.declared.Measure.the-variants.{Incr}
-use Rattle.rows.specs.Count.{onlyIf}
 use Rattle.rows.specs.Lists.{differ}
 use Rattle.rows.proofs.Tests.{and-left, and-right, differ-cases}
-use Rattle.rows.proofs.Counting.{max-bound, max-reach, only-small}
+use Rattle.rows.proofs.Counting.{max-bound, max-reach}
 use Rattle.network.specs.declared.Link.{Link}
 use Rattle.network.specs.Network.{Net, inService}
-use Rattle.tree.specs.Tree.{Tree, treeOf, dist, under}
+use Rattle.tree.specs.Tree.{Tree, treeOf, dist, under, inside}
 use Rattle.tree.proofs.Ways.{Home, under-self}
 use Rattle.tree.proofs.Meeting.{apart-over, apart-far}
 use Rattle.sound.specs.Sound.{keepsShort, short}
 use Rattle.sound.proofs.Sounds.{Sound}
 use Rattle.sound.proofs.Holding.{home, first-in, second-in, link-short}
-use Rattle.swap.specs.Swap.{innerEnd, outerEnd, crosses, newDist, inside, cost}
-
--- f(u) for u in T(x)
-pub inside-in : (t : Tree) (x : ℕ) (f : ℕ → ℕ) (u : ℕ) → under t x u ≡ true → inside t x f u ≡ f u
-unfolding inside onlyIf
-inside-in t x f u h = rw h
-
-pub inside-small : (t : Tree) (x : ℕ) (f : ℕ → ℕ) (u b : ℕ) → (under t x u ≡ true → f u ≤ b) → inside t x f u ≤ b
-unfolding inside
-inside-small t x f u b h = only-small (under t x u) (f u) b h
-
-pub inside-out : (t : Tree) (x : ℕ) (f : ℕ → ℕ) (u : ℕ) → under t x u ≡ false → inside t x f u ≡ 0
-unfolding inside onlyIf
-inside-out t x f u h = rw h
+use Rattle.survey.proofs.Inside.{inside-in, inside-small}
+use Rattle.swap.specs.Swap.{innerEnd, outerEnd, crosses, newDist, cost}
 
 module _ (t : Tree) (x : ℕ) (l : Link) where
   -- the lower end of a link that crosses x is in T(x), the other is not

@@ -12,13 +12,14 @@ use borrow.Author.Tests.{eqb-true}
 use Rattle.rows.proofs.Tests.{clash, either, not-so}
 use Rattle.rows.proofs.Counting.{sum-cong, sum-add, sum-le, sum-times, sum-balance}
 use Rattle.network.specs.declared.Link.{Link}
-use Rattle.tree.specs.Tree.{Tree, route, dist, under, meet}
+use Rattle.tree.specs.Tree.{Tree, route, dist, under, meet, inside}
 use Rattle.tree.proofs.Ways.{Home, home-up, home-step, under-self, under-trans, under-cut, before-under, route-step}
 use Rattle.tree.proofs.Meeting.{meet-under, meet-one, meet-two, apart-dist, under-both, home-meet}
 use Rattle.tree.proofs.Climbing.{up-above, along-all}
-use Rattle.swap.specs.Swap.{innerEnd, outerEnd, newDist, inside, cost}
-use Rattle.swap.specs.Work.{count, weight, stemAt, stem, base, turn, through}
-use Rattle.swap.proofs.Costing.{inside-in, inside-out}
+use Rattle.survey.proofs.Inside.{inside-in, inside-out}
+use Rattle.swap.specs.Swap.{innerEnd, outerEnd, newDist, cost}
+use Rattle.survey.specs.Known.{count, weight, stemAt, stem, base, turn}
+use Rattle.swap.specs.Work.{through}
 
 module _ (t : Tree) where
   -- one number at every node of T(x)

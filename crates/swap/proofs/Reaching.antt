@@ -1,33 +1,23 @@
 -- The max by what is carried: reach(z,z) = deepest(z) - d(z); one step up it is the larger of itself and d(z) - d(p) + aside(x) - d(p);
 -- and max is reach + w + d(z'). Incr is K - 2 d(x). Assumes nothing.
 use mathlib.Core.Path.{_≡_, refl, ap}
-use mathlib.Core.Bool.{Bool, true, false, not}
+use mathlib.Core.Bool.{Bool, true, false}
 use Prim.Native.Nat.{ℕ, _+_, _-_, _<_, _≤_, max}
 use native.Mathlib.Nat.{le-antisymm}
 use native.Mathlib.Omega.{arith}
 use lib.Dec.{eqb}
 use Rattle.edition.specs.declared.Measure.the-variants.{Max}
-use Rattle.rows.specs.Count.{maxTo, onlyIf}
-use borrow.Author.Tests.{not-true}
-use Rattle.rows.proofs.Tests.{and-left, and-right}
-use Rattle.rows.proofs.Counting.{max-bound, max-reach, only-small}
+use Rattle.rows.specs.Count.{maxTo}
 use Rattle.network.specs.declared.Link.{Link}
-use Rattle.tree.specs.Tree.{Tree, dist, under, apart}
+use Rattle.tree.specs.Tree.{Tree, dist, under, apart, inside}
 use Rattle.tree.proofs.Ways.{Home, home-up, home-step, under-self, under-trans, dist-up}
 use Rattle.tree.proofs.Meeting.{apart-dist}
 use Rattle.tree.proofs.Climbing.{up-above, below-not}
-use Rattle.swap.specs.Swap.{innerEnd, outerEnd, newDist, inside, cost}
-use Rattle.swap.specs.Work.{deepest, beside, aside, reach}
-use Rattle.swap.proofs.Costing.{inside-in, inside-small}
+use Rattle.swap.specs.Swap.{innerEnd, outerEnd, newDist, cost}
+use Rattle.survey.proofs.Inside.{inside-reach, inside-bound, beside-reach, beside-bound, aside-more}
+use Rattle.survey.specs.Known.{deepest, beside, aside}
+use Rattle.swap.specs.Work.{reach}
 use Rattle.swap.proofs.Folding.{meet-below, meet-aside}
-
--- the largest over T(x): none is larger, and it is no larger than a bound of all
-module _ (t : Tree) (x : ℕ) (f : ℕ → ℕ) where
-  pub inside-reach : (u : ℕ) → u < t .size → under t x u ≡ true → f u ≤ maxTo (inside t x f) (t .size)
-  inside-reach u l e = rw (← inside-in t x f u e) (max-reach (inside t x f) (t .size) u l)
-
-  pub inside-bound : (b : ℕ) → ((u : ℕ) → u < t .size → under t x u ≡ true → f u ≤ b) → maxTo (inside t x f) (t .size) ≤ b
-  inside-bound b h = max-bound (inside t x f) (t .size) b (λ u l. inside-small t x f u b (h u l))
 
 module _ (t : Tree) (all : (u : ℕ) → u < t .size → Home t u) where
   -- from z itself
@@ -66,25 +56,6 @@ module _ (t : Tree) (all : (u : ℕ) → u < t .size → Home t u) where
     x-not : under t x (t .up x) ≡ false
     x-not = below-not t x hx nx
 
-    beside-is : (u : ℕ) → under t (t .up x) u ≡ true → under t x u ≡ false → onlyIf (beside t x u) (dist t u) ≡ dist t u
-    unfolding beside onlyIf
-    beside-is u e f = rw (e, f)
-
-    pub beside-reach : (u : ℕ) → u < t .size → under t (t .up x) u ≡ true → under t x u ≡ false → dist t u ≤ aside t x
-    unfolding aside
-    beside-reach u l e f = rw (← beside-is u e f) (max-reach (λ u. onlyIf (beside t x u) (dist t u)) (t .size) u l)
-
-    pub aside-more : dist t (t .up x) ≤ aside t x
-    aside-more = beside-reach (t .up x) lp (under-self t (t .up x) hp) x-not
-
-    pub beside-bound : (b : ℕ) → ((u : ℕ) → u < t .size → under t (t .up x) u ≡ true → under t x u ≡ false → dist t u ≤ b) → aside t x ≤ b
-    unfolding aside beside
-    beside-bound b h =
-        max-bound (λ u. onlyIf (beside t x u) (dist t u)) (t .size) b
-        (λ u l. only-small (beside t x u) (dist t u) b
-        (λ q. h u l (and-left (under t (t .up x) u) (not (under t x u)) q)
-        (not-true (under t x u) (and-right (under t (t .up x) u) (not (under t x u)) q))))
-
     -- t(u,z) of a node beside x
     apart-beside :
         (u : ℕ)
@@ -112,7 +83,7 @@ module _ (t : Tree) (all : (u : ℕ) → u < t .size → Home t u) where
             → apart t u z ≤ max (maxTo (inside t x f) (t .size))
             ((dist t z - dist t (t .up x)) + (aside t x - dist t (t .up x)))
         each u l e true g = omega (arith, inside-reach t x f u l g)
-        each u l e false g = omega (arith, apart-beside u (all u l) e g, beside-reach u l e g, near)
+        each u l e false g = omega (arith, apart-beside u (all u l) e g, beside-reach t all x z lz pz nx lp u l e g, near)
 
         upper-half :
             maxTo (inside t (t .up x) f) (t .size) ≤ max (maxTo (inside t x f) (t .size))
@@ -127,9 +98,9 @@ module _ (t : Tree) (all : (u : ℕ) → u < t .size → Home t u) where
         two =
             omega (
               arith,
-              beside-bound (maxTo (inside t (t .up x) f) (t .size) + dist t (t .up x) + dist t (t .up x) - dist t z)
+              beside-bound t all x z lz pz nx lp (maxTo (inside t (t .up x) f) (t .size) + dist t (t .up x) + dist t (t .up x) - dist t z)
                   (λ u l e g. omega (arith, apart-beside u (all u l) e g, inside-reach t (t .up x) f u l e)),
-              aside-more,
+              aside-more t all x z lz pz nx lp,
               apart-beside (t .up x) hp (under-self t (t .up x) hp) x-not,
               inside-reach t (t .up x) f (t .up x) lp (under-self t (t .up x) hp),
             )
@@ -137,7 +108,7 @@ module _ (t : Tree) (all : (u : ℕ) → u < t .size → Home t u) where
         lower-half :
             max (maxTo (inside t x f) (t .size)) ((dist t z - dist t (t .up x)) + (aside t x - dist t (t .up x))) ≤
             maxTo (inside t (t .up x) f) (t .size)
-        lower-half = omega (arith, one, two, near, aside-more)
+        lower-half = omega (arith, one, two, near, aside-more t all x z lz pz nx lp)
 
   -- max and incr of a link that crosses x
   module _ (x : ℕ) (l : Link) (lx : x < t .size) (hz : Home t (innerEnd t x l)) (pz : under t x (innerEnd t x l) ≡ true) where

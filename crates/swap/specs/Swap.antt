@@ -6,12 +6,12 @@ use Rattle.edition.specs.declared.Found.{Found}
 use Rattle.edition.specs.declared.Measure.{Measure}
 use Rattle.edition.specs.declared.Measure.the-variants.{Sum, Incr, Max}
 use Rattle.edition.specs.Limits.{wholeSearch}
-use Rattle.rows.specs.Count.{sumTo, maxTo, someTo, onlyIf}
+use Rattle.rows.specs.Count.{sumTo, maxTo, someTo}
 use Rattle.rows.specs.First.{firstTo}
 use Rattle.rows.specs.Lists.{differ}
 use Rattle.network.specs.declared.Link.{Link}
 use Rattle.network.specs.Network.{Net, inService}
-use Rattle.tree.specs.Tree.{Tree, treeOf, dist, under, hops, apart}
+use Rattle.tree.specs.Tree.{Tree, treeOf, dist, under, inside, hops, apart}
 
 -- z, of a link that crosses x: its end in T(x).
 unfoldable pub innerEnd : Tree → ℕ → Link → ℕ
@@ -39,10 +39,6 @@ candidate g x e =
 -- N(u) = t(u,z) + w + d(z').
 unfoldable pub newDist : Tree → ℕ → Link → ℕ → ℕ
 newDist t x l u = apart t u (innerEnd t x l) + l .length + dist t (outerEnd t x l)
-
--- f(u) for u in T(x), and 0 for every other node.
-unfoldable pub inside : Tree → ℕ → (ℕ → ℕ) → ℕ → ℕ
-inside t x f u = let v = f u in onlyIf (under t x u) v
 
 -- Sum: the N(u) added over T(x). Incr: the largest N(u) - d(u), which is never below 0 (`never-nearer`). Max: the largest N(u).
 unfoldable pub cost : Measure → Tree → ℕ → Link → ℕ

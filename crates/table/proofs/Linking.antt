@@ -2,47 +2,47 @@
 use mathlib.Core.Path.{_≡_, refl, sym, subst, ap, ap₂, _∙_}
 use mathlib.Core.Bool.{Bool, true, false, cond, not, _&&_, _||_}
 use mathlib.Core.List.{List}
-use Prim.Native.Nat.{ℕ, suc, _+_, _<_, _≤_}
+use Prim.Native.Nat.{ℕ, suc, _+_, _-_, _<_, _≤_}
 use native.Mathlib.Omega.{arith}
 use lib.Dec.{eqb}
-use lib.ListN.{length, getD}
+use lib.ListN.{length}
 use borrow.Author.Tests.{eqb-true, ne-eqb}
+use Rattle.edition.specs.Limits.{nodeLimit}
 use Rattle.edition.specs.declared.Search.{Search}
-use Rattle.edition.specs.declared.Verdict.the-variants.{Taken}
 use Rattle.rows.specs.Lists.{has, upTo, differ}
 use Rattle.rows.proofs.Tests.{clash, either, not-so, and-none, or-swap}
 use Rattle.rows.proofs.Listed.{upTo-out}
 use Rattle.network.specs.declared.Link.{Link}
-use Rattle.network.specs.Network.{Net, netOf, inService, touches}
+use Rattle.network.specs.Network.{Net, inService, touches}
 use Rattle.tree.specs.Tree.{Tree, treeOf, route, under, meet, onPath}
 use Rattle.tree.proofs.Ways.{Home, under-cut, under-root}
 use Rattle.tree.proofs.Meeting.{on-path}
 use Rattle.tree.proofs.Bounded.{under-below}
-use Rattle.tree.proofs.Climbing.{shorter}
-use Rattle.tree.proofs.InRows.{size-in}
-use Rattle.sound.specs.Sound.{netVerdict}
-use Rattle.sound.proofs.Sounds.{Sound, sound}
-use Rattle.sound.proofs.Holding.{first-in, second-in, parent-touches, home, up-in}
+use Rattle.survey.specs.Known.{count}
+use Rattle.survey.specs.Row.{nodesIn, knownAt}
+use Rattle.sound.specs.Surveyed.{Surveyed}
+use Rattle.sound.proofs.Sounds.{Sound}
+use Rattle.sound.proofs.Holding.{first-in, second-in, parent-touches, home}
 use Rattle.swap.specs.Swap.{innerEnd, crosses}
-use Rattle.swap.specs.Work.{count}
 use Rattle.table.proofs.Prefixes.{entry-unmoved, entry-top}
 use Rattle.table.specs.declared.Side.{Side}
 use Rattle.table.specs.Table.{isAsked}
-use Rattle.table.specs.Work.{Entries, Carries, Crossing, want, OfferedAt, Ready, Spare, Starting, Linked}
+use Rattle.table.specs.Work.{Entries, Carries, Crossing, Stepping, Stepped, Offering, want, OfferedAt, Spare, Climbing, Linked}
 use Rattle.table.proofs.Moving.{passed-none, passed-more}
 use Rattle.table.proofs.Offering.{entries-same}
-use Rattle.table.proofs.TwoSides.{count-more, together}
+use Rattle.table.proofs.Surveys.{fine, size-is, homes, closed, there, count-is, count-few}
+use Rattle.table.proofs.TwoSides.{count-more, count-rises, together}
 
--- a link that does not cross x leaves its record
+-- a link that does not cross x, or an x that is not asked for: its record stays
 module _ (g : Net) (asked before : List ℕ) (e x : ℕ) where
-  pub want-kept : crosses (treeOf g) x e (g .link e) ≡ false → want g asked before (suc e) x ≡ want g asked before e x
+  pub want-kept : (isAsked asked x ≡ true → crosses (treeOf g) x e (g .link e) ≡ false) → want g asked before (suc e) x ≡ want g asked before e x
   unfolding want
   want-kept c = go (isAsked asked x) refl (eqb x (g .search .root)) refl
     where
       go : (m : Bool) → isAsked asked x ≡ m → (r : Bool) → eqb x (g .search .root) ≡ r → want g asked before (suc e) x ≡ want g asked before e x
       go false p r q = rw p
       go true p true q = rw (p, entry-top g x q (suc e), entry-top g x q e)
-      go true p false q = rw (p, entry-unmoved g x q e c)
+      go true p false q = rw (p, entry-unmoved g x q e (c p))
 
 -- which nodes a spare link crosses
 module _ (g : Net) (s : Sound g) (e k : ℕ) (p : Spare g e k) where
@@ -111,9 +111,8 @@ record Apart (t : Tree) (a b : Side) : Type 0 where
   free : (v : ℕ) → behind t a v ≡ true → under t v (b .from) ≡ false
 
 -- two climbs from the ends of a spare link, up to where they meet: the nodes passed have gone on from e links to one more
-pub record Between (g : Net) (n : ℕ) (asked : List ℕ) (e k : ℕ) (row₀ : List ℕ) (a b : Side) (row : List ℕ) : Type 0 where
-  fine : Sound g
-  nodes : treeOf g .size ≡ n
+pub record Between (g : Net) (survey asked : List ℕ) (e k : ℕ) (row₀ : List ℕ) (a b : Side) (row : List ℕ) : Type 0 where
+  surveyed : Surveyed g survey
   spare : Spare g e k
   ends : Ends (g .link e) (a .from) (b .from)
   one : Apart (treeOf g) a b
@@ -121,22 +120,21 @@ pub record Between (g : Net) (n : ℕ) (asked : List ℕ) (e k : ℕ) (row₀ : 
   pub size : length row ≡ length row₀
   rows :
       (before : List ℕ)
-      → Entries n (want g asked before e) before row₀
-      → Entries n
+      → Entries (g .nodes) (want g asked before e) before row₀
+      → Entries (g .nodes)
       (λ v. cond (behind (treeOf g) a v || behind (treeOf g) b v) (want g asked before (suc e) v)
       (want g asked before e v))
       before row
 
--- how many nodes the two have on their routes, the root with each
-abbrev pub left : Tree → Side → Side → ℕ
-left t a b = length (route t (a .climb .node)) + length (route t (b .climb .node))
+-- how many more nodes the two can come to have below them
+abbrev pub ahead : List ℕ → Side → Side → ℕ
+ahead survey a b = nodeLimit + nodeLimit - (knownAt survey (a .climb .node) .count + knownAt survey (b .climb .node) .count)
 
 -- two climbs that have not met, the first with no more nodes below it than the second
-pub record Turn (g : Net) (n : ℕ) (asked : List ℕ) (e k : ℕ) (row₀ : List ℕ) (a b : Side) (row : List ℕ) (m : ℕ) : Type 0 where
-  between : Between g n asked e k row₀ a b row
+pub record Turn (g : Net) (survey asked : List ℕ) (e k : ℕ) (row₀ : List ℕ) (a b : Side) (row : List ℕ) : Type 0 where
+  between : Between g survey asked e k row₀ a b row
   few : count (treeOf g) (a .climb .node) ≤ count (treeOf g) (b .climb .node)
   parted : a .climb .node ≡ b .climb .node → ⊥
-  left-is : left (treeOf g) a b ≡ m
 
 module _ (t : Tree) (y : ℕ) (a : Side) (c : Carries t y a) where
   own : Carries t (a .from) a
@@ -145,40 +143,36 @@ module _ (t : Tree) (y : ℕ) (a : Side) (c : Carries t y a) where
   none-behind : Home t y → a .climb .node ≡ y → (v : ℕ) → behind t a v ≡ false
   none-behind h q v = rw (q, c .from-is, passed-none t y h v)
 
-module _ (links parents : List ℕ) (search : Search) (ok : netVerdict (netOf links parents search) ≡ Taken) where
-  abbrev g : Net
-  g = netOf links parents search
+module _ {g : Net} {search : Search} {asked survey anchors row : List ℕ} {e k : ℕ} {a b : Side}
+    (h : Climbing g search asked survey anchors row e k a b) where
+  sv : Surveyed g survey
+  sv = h .searching .surveyed
 
-  fine : Sound g
-  fine = sound g ok
+  a-none : (v : ℕ) → behind (treeOf g) a v ≡ false
+  a-none = none-behind _ _ a (h .starting .one) (home g (fine sv) _ (first-in g (fine sv) e (h .spare .there))) (h .starting .one-at)
 
-  pub between-start : (e k : ℕ) → Spare g e k → (a b : Side) → Starting g e a b → (asked row : List ℕ) → Between g (length parents) asked e k row a b row
-  between-start e k s a b z asked row =
+  b-none : (v : ℕ) → behind (treeOf g) b v ≡ false
+  b-none = none-behind _ _ b (h .starting .two) (home g (fine sv) _ (second-in g (fine sv) e (h .spare .there))) (h .starting .two-at)
+
+  pub between-start : Between g survey asked e k row a b row
+  between-start =
       record {
-        fine = fine;
-        nodes = size-in links parents search;
-        spare = s;
-        ends = rw (z .one .from-is, z .two .from-is) forth;
-        one = record { carries = own _ _ a (z .one); free = λ v m. clash m (a-none v) };
-        two = record { carries = own _ _ b (z .two); free = λ v m. clash m (b-none v) };
+        surveyed = sv;
+        spare = h .spare;
+        ends = rw (h .starting .one .from-is, h .starting .two .from-is) forth;
+        one = record { carries = own _ _ a (h .starting .one); free = λ v m. clash m (a-none v) };
+        two = record { carries = own _ _ b (h .starting .two); free = λ v m. clash m (b-none v) };
         size = refl;
-        rows = λ before h. entries-same _ _ _ before row (λ v l. rw (a-none v, b-none v)) h;
+        rows = λ before i. entries-same _ _ _ before row (λ v l. rw (a-none v, b-none v)) i;
       }
-    where
-      a-none : (v : ℕ) → behind (treeOf g) a v ≡ false
-      a-none = none-behind _ _ a (z .one) (home g fine _ (first-in g fine e (s .there))) (z .one-at)
 
-      b-none : (v : ℕ) → behind (treeOf g) b v ≡ false
-      b-none = none-behind _ _ b (z .two) (home g fine _ (second-in g fine e (s .there))) (z .two-at)
-
-module _ {g : Net} {n : ℕ} {asked : List ℕ} {e k : ℕ} {row₀ : List ℕ} where
-  module _ {a b : Side} {row : List ℕ} (i : Between g n asked e k row₀ a b row) where
+module _ {g : Net} {survey asked : List ℕ} {e k : ℕ} {row₀ : List ℕ} where
+  module _ {a b : Side} {row : List ℕ} (i : Between g survey asked e k row₀ a b row) where
     -- what is said of the first climb holds of the second too
-    pub between-turn : Between g n asked e k row₀ b a row
+    pub between-turn : Between g survey asked e k row₀ b a row
     between-turn =
         record {
-          fine = i .fine;
-          nodes = i .nodes;
+          surveyed = i .surveyed;
           spare = i .spare;
           ends = ends-turn (i .ends);
           one = i .two;
@@ -187,85 +181,88 @@ module _ {g : Net} {n : ℕ} {asked : List ℕ} {e k : ℕ} {row₀ : List ℕ} 
           rows = λ before h. entries-same _ _ _ before row (λ v l. rw (or-swap (behind (treeOf g) a v) (behind (treeOf g) b v))) (i .rows before h);
         }
 
-    homes : (u : ℕ) → u < treeOf g .size → Home (treeOf g) u
-    unfolding treeOf
-    homes = home g (i .fine)
-
     from-in : a .from < treeOf g .size
-    from-in = end-in g (i .fine) e (i .spare .there) (i .ends)
+    from-in = end-in g (fine (i .surveyed)) e (i .spare .there) (i .ends)
 
     from-home : Home (treeOf g) (a .from)
-    from-home = homes (a .from) from-in
+    from-home = homes (i .surveyed) (a .from) from-in
 
     node-on : under (treeOf g) (a .climb .node) (a .from) ≡ true
     node-on = i .one .carries .along .on
 
     node-in : a .climb .node < treeOf g .size
-    node-in = under-below (treeOf g) (up-in g (i .fine)) (a .from) (a .climb .node) from-home from-in node-on
+    node-in = under-below (treeOf g) (closed (i .surveyed)) (a .from) (a .climb .node) from-home from-in node-on
 
-    node-low : a .climb .node < n
-    node-low = omega (arith, node-in, i .nodes)
+    node-low : a .climb .node < g .nodes
+    node-low = omega (arith, node-in, size-is (i .surveyed))
 
-  module _ {a b : Side} {row : List ℕ} (i : Between g n asked e k row₀ a b row) where
+    pub node-known : a .climb .node < nodesIn survey
+    node-known = there (i .surveyed) (a .climb .node) node-low
+
+    count-at : knownAt survey (a .climb .node) .count ≡ count (treeOf g) (a .climb .node)
+    count-at = count-is (i .surveyed) _ node-low _ refl
+
+  module _ {a b : Side} {row : List ℕ} (i : Between g survey asked e k row₀ a b row) where
     -- where they meet, every node that the link crosses was passed
-    module _ {p q : ℕ} (pe : p ≡ a .climb .node) (qe : q ≡ b .climb .node) (met : p ≡ q) where
-      meeting : a .climb .node ≡ meet (treeOf g) (a .from) (b .from)
-      meeting =
+    module _ {p q : ℕ} (pe : p ≡ a .climb .node) (qe : q ≡ b .climb .node) where
+      meeting : p ≡ q → a .climb .node ≡ meet (treeOf g) (a .from) (b .from)
+      meeting met =
           together (treeOf g) (a .from) (b .from) (a .climb .node) (node-on i)
           (subst (λ (v : ℕ). under (treeOf g) v (b .from) ≡ true) (sym qe ∙ sym met ∙ pe) (node-on (between-turn i))) (i .one .free)
 
-      path-is : (v : ℕ) → (behind (treeOf g) a v || behind (treeOf g) b v) ≡ onPath (treeOf g) (a .from) (b .from) v
+      path-is : p ≡ q → (v : ℕ) → (behind (treeOf g) a v || behind (treeOf g) b v) ≡ onPath (treeOf g) (a .from) (b .from) v
       unfolding onPath
-      path-is v = rw (sym qe ∙ sym met ∙ pe, meeting)
+      path-is met v = rw (sym qe ∙ sym met ∙ pe, meeting met)
 
-      not-crossed : (v : ℕ) → (behind (treeOf g) a v || behind (treeOf g) b v) ≡ false → crosses (treeOf g) v e (g .link e) ≡ false
+      not-crossed : p ≡ q → (v : ℕ) → (behind (treeOf g) a v || behind (treeOf g) b v) ≡ false → crosses (treeOf g) v e (g .link e) ≡ false
       unfolding crosses
-      not-crossed v c =
-          rw (end-differs (treeOf g) (i .ends) v ∙ sym (on-path (treeOf g) _ _ v (from-home i) (from-home (between-turn i))) ∙ sym (path-is v) ∙ c)
+      not-crossed met v c =
+          rw
+          (end-differs (treeOf g) (i .ends) v
+          ∙ sym (on-path (treeOf g) _ _ v (from-home i) (from-home (between-turn i))) ∙ sym (path-is met v) ∙ c)
           (and-none (inService (g .link e) && not (eqb e (treeOf g .link v))))
 
       all-done :
-          (before : List ℕ) (v : ℕ) (t : Bool)
-          → (behind (treeOf g) a v || behind (treeOf g) b v) ≡ t
+          p ≡ q
+          → (before : List ℕ) (v : ℕ) (t : Bool) → (behind (treeOf g) a v || behind (treeOf g) b v) ≡ t
           → cond t (want g asked before (suc e) v) (want g asked before e v) ≡ want g asked before (suc e) v
-      all-done before v true c = refl
-      all-done before v false c = sym (want-kept g asked before e v (not-crossed v c))
+      all-done met before v true c = refl
+      all-done met before v false c = sym (want-kept g asked before e v (λ m. not-crossed met v c))
 
-      pub between-end : Linked g n asked e row₀ row
-      between-end = record { goes-on = λ before h. entries-same _ _ _ before row (λ v l. all-done before v _ refl) (i .rows before h) }
-
-    module _ {near counts bases turns : List ℕ} (r : Ready (treeOf g) n near counts bases turns) where
-      pub counted : a .climb .node < length counts
-      counted = omega (arith, node-low i, r .counts .room)
+      pub between-end : p ≡ q → Linked g (g .nodes) asked e row₀ row
+      between-end met = record { goes-on = λ before h. entries-same _ _ _ before row (λ v l. all-done met before v _ refl) (i .rows before h) }
 
       -- the one with fewer nodes below it is next
-      module _ {x y : ℕ} (xe : x ≡ getD counts (b .climb .node) 0) (ye : y ≡ getD counts (a .climb .node) 0) {p q : ℕ}
-          (pe : p ≡ a .climb .node) (qe : q ≡ b .climb .node) (f : p ≡ q → ⊥) where
-        pub first-next : y ≤ x → Turn g n asked e k row₀ a b row (left (treeOf g) a b)
+      module _ {x y : ℕ} (xe : x ≡ knownAt survey (b .climb .node) .count) (ye : y ≡ knownAt survey (a .climb .node) .count) (f : p ≡ q → ⊥) where
+        pub first-next : y ≤ x → Turn g survey asked e k row₀ a b row
         first-next l =
             record {
               between = i;
-              few = omega (arith, r .counts .each _ (node-low i), r .counts .each _ (node-low (between-turn i)), xe, ye, l);
+              few = omega (arith, count-at i, count-at (between-turn i), xe, ye, l);
               parted = λ h. f (pe ∙ h ∙ sym qe);
-              left-is = refl;
             }
 
-        pub second-next : x < y → Turn g n asked e k row₀ b a row (left (treeOf g) a b)
+        pub second-next : x < y → Turn g survey asked e k row₀ b a row
         second-next l =
             record {
               between = between-turn i;
-              few = omega (arith, r .counts .each _ (node-low i), r .counts .each _ (node-low (between-turn i)), xe, ye, l);
+              few = omega (arith, count-at i, count-at (between-turn i), xe, ye, l);
               parted = λ h. f (pe ∙ sym h ∙ sym qe);
-              left-is = omega arith;
             }
 
   -- the link crosses the node where the first is, and the first goes on
-  module _ {a b : Side} {row : List ℕ} {m : ℕ} (turn : Turn g n asked e k row₀ a b row m) where
-    i : Between g n asked e k row₀ a b row
+  module _ {a b : Side} {row : List ℕ} (turn : Turn g survey asked e k row₀ a b row) where
+    i : Between g survey asked e k row₀ a b row
     i = turn .between
 
     not-over : under (treeOf g) (a .climb .node) (b .climb .node) ≡ false
-    not-over = not-so _ (λ q. omega (arith, count-more (treeOf g) (homes i) _ _ (node-in i) (node-in (between-turn i)) q (turn .parted), turn .few))
+    not-over =
+        not-so _
+        (λ q. omega (
+          arith,
+          count-more (treeOf g) (homes (i .surveyed)) _ _ (node-in i) (node-in (between-turn i)) q (turn .parted),
+          turn .few,
+        ))
 
     not-behind : behind (treeOf g) b (a .climb .node) ≡ false
     not-behind = not-so _ (λ q. clash (node-on i) (i .two .free _ q))
@@ -279,43 +276,57 @@ module _ {g : Net} {n : ℕ} {asked : List ℕ} {e k : ℕ} {row₀ : List ℕ} 
     off-root : eqb (a .climb .node) (treeOf g .root) ≡ false
     off-root = ne-eqb (a .climb .node) (treeOf g .root) below-root
 
-    pub carrying : Carries (treeOf g) (a .from) a
-    carrying = i .one .carries
-
-    pub from-low : a .from < n
-    from-low = omega (arith, from-in i, i .nodes)
-
-    pub crossing : Crossing g e a k
+    crossing : Crossing g e a k
     unfolding treeOf
     crossing =
         record {
           there = i .spare .there;
-          cross = spare-crosses g (i .fine) e k (i .spare) _ (node-in i) off-root ∙ end-differs (treeOf g) (i .ends) _ ∙ rw (node-on i, off);
+          cross =
+              spare-crosses g (fine (i .surveyed)) e k (i .spare) _ (node-in i) off-root ∙ end-differs (treeOf g) (i .ends) _ ∙ rw (node-on i, off);
           low = end-lower (treeOf g) (i .ends) _ (node-on i) off;
           through-is = i .spare .through-is;
+          long = i .spare .long;
         }
 
-    pub between-less : {v : ℕ} → v ≡ treeOf g .up (a .climb .node) → length (route (treeOf g) v) + length (route (treeOf g) (b .climb .node)) < m
-    between-less q = rw q (omega (arith, shorter (treeOf g) (a .from) (from-home i) (a .climb .node) (node-on i) off-root, turn .left-is))
+    pub stepping : Stepping g survey a
+    unfolding treeOf
+    stepping = record { surveyed = i .surveyed; carries = i .one .carries; low = from-in i; below = below-root }
 
-    module _ {a′ : Side} (step : Carries (treeOf g) (a .from) a′ × (a′ .climb .node ≡ treeOf g .up (a .climb .node)) × (a′ .from ≡ a .from)) where
+    pub offering :
+        {search : Search} {anchors : List ℕ} {a₀ b₀ : Side}
+        → Climbing g search asked survey anchors row₀ e k a₀ b₀ → Offering g search asked survey anchors row e k a
+    offering h =
+        record {
+          searching =
+              record {
+                surveyed = i .surveyed;
+                anchored = h .searching .anchored;
+                room = omega (arith, i .size, h .searching .room);
+              };
+          search-is = h .search-is;
+          costing = record { stepping = stepping; crossing = crossing };
+        }
+
+    module _ {a′ : Side} (step : Stepped g a a′) where
       behind-more : (v : ℕ) → behind (treeOf g) a′ v ≡ (behind (treeOf g) a v || eqb (a .climb .node) v)
-      behind-more v = rw (step .1, step .2) (passed-more (treeOf g) (a .from) (from-home i) (a .climb .node) (node-on i) off-root v)
+      behind-more v = rw (step .here, step .from-is) (passed-more (treeOf g) (a .from) (from-home i) (a .climb .node) (node-on i) off-root v)
 
       fresh : (v : ℕ) → (behind (treeOf g) a v || eqb (a .climb .node) v) ≡ true → under (treeOf g) v (b .from) ≡ false
       fresh v m =
           either _ _ m (λ x. i .one .free v x)
           (λ x y. subst (λ (w : ℕ). under (treeOf g) w (b .from) ≡ false) (eqb-true (a .climb .node) v y) off)
 
-      pub between-more : {row′ : List ℕ} → OfferedAt g n asked e (a .climb .node) row row′ → length row′ ≡ length row → Between g n asked e k row₀ a′ b row′
+      pub between-more :
+          {row′ : List ℕ}
+          → OfferedAt g (g .nodes) asked e (a .climb .node) row row′ → length row′ ≡ length row
+          → Between g survey asked e k row₀ a′ b row′
       between-more {row′} o w =
           record {
-            fine = i .fine;
-            nodes = i .nodes;
+            surveyed = i .surveyed;
             spare = i .spare;
-            ends = rw (step .2) (i .ends);
-            one = record { carries = own _ _ a′ (step .0); free = λ v m. fresh v (sym (behind-more v) ∙ m) };
-            two = record { carries = i .two .carries; free = rw (step .2) (i .two .free) };
+            ends = rw (step .from-is) (i .ends);
+            one = record { carries = own _ _ a′ (step .carries); free = λ v m. fresh v (sym (behind-more v) ∙ m) };
+            two = record { carries = i .two .carries; free = rw (step .from-is) (i .two .free) };
             size = w ∙ i .size;
             rows =
                 λ before h.
@@ -324,9 +335,31 @@ module _ {g : Net} {n : ℕ} {asked : List ℕ} {e k : ℕ} {row₀ : List ℕ} 
                 (o .goes-on before _ (i .rows before h) (rw (upTo-out (a .climb .node) (route (treeOf g) (a .from)), not-behind)));
           }
 
-pub not-top :
-    (links parents : List ℕ) (search : Search) {n : ℕ} {asked : List ℕ} {e k : ℕ} {row₀ : List ℕ} {a b : Side}
-    {row : List ℕ} {m : ℕ}
-    → Turn (netOf links parents search) n asked e k row₀ a b row m → a .climb .node ≡ search .root → ⊥
-unfolding treeOf netOf
-not-top links parents search turn = below-root turn
+      up-in : treeOf g .up (a .climb .node) < treeOf g .size
+      up-in = closed (i .surveyed) (a .climb .node) (node-in i)
+
+      count-next : knownAt survey (a′ .climb .node) .count ≡ count (treeOf g) (treeOf g .up (a .climb .node))
+      count-next =
+          ap (λ (v : ℕ). knownAt survey v .count) (step .here)
+          ∙ count-is (i .surveyed) (treeOf g .up (a .climb .node)) (omega (arith, up-in, size-is (i .surveyed))) _ refl
+
+      rises : knownAt survey (a .climb .node) .count < knownAt survey (a′ .climb .node) .count
+      rises =
+          omega (
+            arith,
+            count-at i,
+            count-next,
+            count-rises (treeOf g) (homes (i .surveyed)) (a .climb .node) (node-in i) up-in off-root,
+          )
+
+      most : knownAt survey (a′ .climb .node) .count ≤ nodeLimit
+      most = omega (arith, count-next, count-few (i .surveyed) (treeOf g .up (a .climb .node)))
+
+      other : knownAt survey (b .climb .node) .count ≤ nodeLimit
+      other = omega (arith, count-at (between-turn i), count-few (i .surveyed) (b .climb .node))
+
+      pub first-less : ahead survey a′ b < ahead survey a b
+      first-less = omega (arith, rises, most, other)
+
+      pub second-less : ahead survey b a′ < ahead survey b a
+      second-less = omega (arith, rises, most, other)

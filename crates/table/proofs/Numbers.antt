@@ -1,5 +1,5 @@
 -- Which numbers the table and one entry can give. Assumes nothing.
-use mathlib.Core.Path.{_≡_, refl}
+use mathlib.Core.Path.{refl}
 use mathlib.Core.List.{List, [], _∷_, _++_}
 use Prim.Native.Nat.{ℕ}
 use Rattle.edition.specs.declared.Why.the-variants.{NoRoute, NoRoom}

@@ -1,28 +1,35 @@
 -- Offering a link to a node: its record goes on from the entry of e links to that of one more. Assumes nothing.
 use mathlib.Core.Path.{_≡_, refl, sym, subst, ap, _∙_}
-use mathlib.Core.Bool.{Bool, true, false, cond, _||_}
+use mathlib.Core.Bool.{Bool, true, false, cond, not, _&&_, _||_}
 use mathlib.Core.List.{List}
-use Prim.Native.Nat.{ℕ, suc, _<_, _≤_}
+use Prim.Native.Nat.{ℕ, suc, _+_, _<_, _≤_}
 use native.Mathlib.Omega.{arith}
-use lib.Dec.{eqb, leb}
+use native.Mathlib.Numerals.{add-one}
+use lib.Dec.{eqb, leb, ltb}
 use lib.ListN.{length, getD}
-use borrow.Author.Tests.{eqb-true, eq-eqb, ne-eqb}
+use borrow.Author.Tests.{eqb-true, eq-eqb, ne-eqb, le-ltb, lt-ltb, leb-true, ltb-false, not-true}
 use Rattle.edition.specs.declared.Search.{Search}
+use Rattle.edition.specs.declared.Swap.{Swap}
 use Rattle.edition.specs.declared.Entry.{Entry}
-use Rattle.edition.specs.Limits.{wholeSearch}
+use Rattle.edition.specs.Limits.{nodeLimit, wholeSearch}
+use Rattle.edition.specs.Entries.{swapState}
 use Rattle.entries.specs.Row.{entryRow, entriesIn, entryAt, putEntry}
-use Rattle.network.specs.Network.{Net, netOf}
-use Rattle.tree.specs.Tree.{hops}
-use Rattle.tree.proofs.InRows.{treeIn}
+use Rattle.rows.proofs.Tests.{clash, and-none, not-so}
+use Rattle.network.specs.Network.{Net}
+use Rattle.tree.specs.Tree.{treeOf, hops}
 use Rattle.swap.specs.Swap.{innerEnd, within}
 use Rattle.swap.specs.Entry.{entry}
-use Rattle.table.specs.Prefix.{firstLinks, offered}
+use Rattle.table.specs.Prefix.{firstLinks, better, kept, offered, noBetter}
+use Rattle.table.specs.declared.Offer.{Offer}
 use Rattle.table.specs.declared.Costs.{Costs}
-use Rattle.table.proofs.Prefixes.{entry-offered}
 use Rattle.table.specs.declared.Side.{Side}
 use Rattle.table.specs.Table.{isAsked}
-use Rattle.table.specs.Work.{Entries, Carries, Crossing, Priced, want, OfferedAt, withinBy}
+use Rattle.table.specs.Work.{Entries, Offering, Priced, want, OfferedAt, withinBy}
+use Rattle.table.proofs.Prefixes.{entry-offered, links-low}
 use Rattle.table.proofs.Slots.{entry-known, entries-put}
+use Rattle.table.proofs.Surveys.{size-is, in-tree, homes, small}
+use Rattle.table.proofs.Pricing.{x-low}
+use Rattle.table.proofs.Anchors.{anchor-own, anchor-other}
 
 -- the same records, told otherwise
 pub entries-same : (n : ℕ) (f g : ℕ → List ℕ) (before row : List ℕ) → ((x : ℕ) → x < n → f x ≡ g x) → Entries n f before row → Entries n g before row
@@ -46,80 +53,185 @@ pub is-marked : (asked : List ℕ) (x m : ℕ) → m ≡ getD asked x 0 → (m �
 unfolding isAsked
 is-marked asked x m q z = rw (ne-eqb (getD asked x 0) 0 (λ y. z (q ∙ y)))
 
--- a node that is not marked
-pub offered-none : (g : Net) (n : ℕ) (asked : List ℕ) (e x m : ℕ) → m ≡ getD asked x 0 → m ≡ 0 → (row : List ℕ) → OfferedAt g n asked e x row row
-offered-none g n asked e x m q z row =
+-- a node whose record one more link leaves
+offered-still : (g : Net) (n : ℕ) (asked : List ℕ) (e x : ℕ) (row : List ℕ)
+    → ((before : List ℕ) (f : ℕ → List ℕ) → Entries n f before row → f x ≡ want g asked before e x → f x ≡ want g asked before (suc e) x)
+    → OfferedAt g n asked e x row row
+offered-still g n asked e x row stays =
     record {
-      goes-on = λ before f h w. entries-same n f _ before row (λ y l. same before f w y (eqb x y) refl) h;
+      goes-on = λ before f h w. entries-same n f _ before row (λ y l. same before f (stays before f h w) y (eqb x y) refl) h;
     }
   where
     same :
         (before : List ℕ) (f : ℕ → List ℕ)
-        → f x ≡ want g asked before e x → (y : ℕ) (b : Bool) → eqb x y ≡ b
+        → f x ≡ want g asked before (suc e) x → (y : ℕ) (b : Bool) → eqb x y ≡ b
         → f y ≡ cond b (want g asked before (suc e) y) (f y)
-    same before f w y true p =
-        subst (λ (v : ℕ). f v ≡ want g asked before (suc e) v) (eqb-true x y p)
-        (w ∙ want-unmarked g asked before e (suc e) x (not-marked asked x m q z))
+    same before f w y true p = subst (λ (v : ℕ). f v ≡ want g asked before (suc e) v) (eqb-true x y p) w
     same before f w y false p = refl
 
--- a node that is marked
-module _ (links parents : List ℕ) (search : Search) (asked : List ℕ) (s : Side)
-    (i : Carries (treeIn links parents search) (s .from) s) (x-low : s .climb .node < length parents) (e k : ℕ)
-    (c : Crossing (netOf links parents search) e s k) (n : s .climb .node ≡ search .root → ⊥) where
-  off : eqb (s .climb .node) (netOf links parents search .search .root) ≡ false
-  unfolding netOf
-  off = ne-eqb (s .climb .node) (search .root) n
+-- a swap link that costs no more than a later one stays
+kept-old : (s : Swap) (o : Offer) → s .cost ≤ o .cost → s .link < o .link → kept true s o ≡ s
+unfolding kept better
+kept-old s o l m =
+    rw (le-ltb (o .cost) (s .cost) l, le-ltb (o .link) (s .link) (omega arith), and-none (eqb (o .cost) (s .cost)))
+
+-- what the test says, by the costs in turn
+module _ (old : Entry) (c : Costs) where
+  pub nothing-yet : (old .state ≡ swapState → ⊥) → false ≡ noBetter old c
+  unfolding noBetter
+  nothing-yet n = rw (ne-eqb (old .state) swapState n)
+
+  pub sum-lower : c .sum < old .sum .cost → false ≡ noBetter old c
+  unfolding noBetter
+  sum-lower l = rw (lt-ltb (c .sum) (old .sum .cost) l, and-none (eqb (old .state) swapState))
+
+  pub incr-lower : c .incr < old .incr .cost → false ≡ noBetter old c
+  unfolding noBetter
+  incr-lower l = rw (lt-ltb (c .incr) (old .incr .cost) l, and-none (eqb (old .state) swapState && not (ltb (c .sum) (old .sum .cost))))
+
+  pub max-decides : old .state ≡ swapState → old .sum .cost ≤ c .sum → old .incr .cost ≤ c .incr → leb (old .max .cost) (c .max) ≡ noBetter old c
+  unfolding noBetter
+  max-decides e l m = rw (eq-eqb (old .state) swapState e, le-ltb (c .sum) (old .sum .cost) l, le-ltb (c .incr) (old .incr .cost) m)
+
+all-four : (a b c d : Bool) → (a && b && c && d) ≡ true → (a ≡ true) × (b ≡ true) × (c ≡ true) × (d ≡ true)
+all-four true true true d h = (refl, refl, refl, h)
+all-four true true false d h = clash h refl
+all-four true false c d h = clash h refl
+all-four false b c d h = clash h refl
+
+-- an entry that one more link makes no better
+module _ (old : Entry) (c : Costs) (h : noBetter old c ≡ true) where
+  parts : (eqb (old .state) swapState ≡ true) × (old .sum .cost ≤ c .sum) × (old .incr .cost ≤ c .incr) × (old .max .cost ≤ c .max)
+  unfolding noBetter
+  parts =
+      let z = all-four (eqb (old .state) swapState) (not (ltb (c .sum) (old .sum .cost))) (not (ltb (c .incr) (old .incr .cost))) _ h in (
+        z .0,
+        ltb-false (c .sum) (old .sum .cost) (not-true _ (z .1)),
+        ltb-false (c .incr) (old .incr .cost) (not-true _ (z .2)),
+        leb-true (old .max .cost) (c .max) (z .3),
+      )
+
+  pub has-swap : eqb (old .state) swapState ≡ true
+  has-swap = parts .0
+
+  pub stays-old : (e : ℕ) → (old .sum .link < e) × (old .incr .link < e) × (old .max .link < e) → (b : Bool) → offered old b e c ≡ old
+  unfolding offered
+  stays-old e low true =
+      rw has-swap
+      (λ i. record {
+        state = sym (eqb-true (old .state) swapState has-swap) i;
+        sum = kept-old (old .sum) (record { link = e; cost = c .sum; incr = c .incr }) (parts .1) (low .0) i;
+        incr = kept-old (old .incr) (record { link = e; cost = c .incr; incr = c .incr }) (parts .2) (low .1) i;
+        max = kept-old (old .max) (record { link = e; cost = c .max; incr = c .incr }) (parts .3) (low .2) i;
+      })
+  stays-old e low false =
+      rw has-swap
+      (λ i. record { state = sym (eqb-true (old .state) swapState has-swap) i; sum = old .sum; incr = old .incr; max = old .max })
+
+module _ {g : Net} {search : Search} {asked survey anchors row : List ℕ} {e k : ℕ} {s : Side}
+    (h : Offering g search asked survey anchors row e k s) where
+  pub low : s .climb .node < g .nodes
+  low = x-low (h .costing)
+
+  pub has-anchor : s .climb .node < length anchors
+  has-anchor = omega (arith, low, h .searching .anchored .room, size-is (h .searching .surveyed))
+
+  pub has-entry : s .climb .node < entriesIn row
+  has-entry = omega (arith, low, h .searching .room)
+
+  pub node-few : s .climb .node < nodeLimit
+  node-few = omega (arith, low, small (h .searching .surveyed), size-is (h .searching .surveyed))
+
+  off : eqb (s .climb .node) (g .search .root) ≡ false
+  off = ne-eqb (s .climb .node) (g .search .root) (h .costing .stepping .below)
+
+  node-in : s .climb .node < treeOf g .size
+  node-in = in-tree (h .searching .surveyed) _ low
+
+  -- by its anchor a node is asked for or not
+  pub is-asked : getD anchors (s .climb .node) 0 ≡ s .climb .node + 1 → isAsked asked (s .climb .node) ≡ true
+  is-asked q = go (isAsked asked (s .climb .node)) refl
+    where
+      go : (b : Bool) → isAsked asked (s .climb .node) ≡ b → isAsked asked (s .climb .node) ≡ true
+      go true p = p
+      go false p =
+          absurd
+          (anchor-other (treeOf g) asked (s .climb .node) (homes (h .searching .surveyed) _ node-in) node-few p
+          (sym (h .searching .anchored .each _ node-in) ∙ q ∙ add-one (s .climb .node)))
+
+  pub not-asked : (getD anchors (s .climb .node) 0 ≡ s .climb .node + 1 → ⊥) → isAsked asked (s .climb .node) ≡ false
+  not-asked n =
+      not-so (isAsked asked (s .climb .node))
+      (λ p. n
+      (h .searching .anchored .each _ node-in
+      ∙ anchor-own (treeOf g) asked (s .climb .node) (homes (h .searching .surveyed) _ node-in) p ∙ sym (add-one (s .climb .node))))
+
+  -- a node that is not asked for
+  pub offered-none : isAsked asked (s .climb .node) ≡ false → OfferedAt g (g .nodes) asked e (s .climb .node) row row
+  offered-none z =
+      offered-still g (g .nodes) asked e (s .climb .node) row
+      (λ before f i w. w ∙ want-unmarked g asked before e (suc e) (s .climb .node) z)
 
   near-is :
       (b : Bool)
       → b ≡ withinBy (search .depth) (s .climb .hops)
-      → b
-      ≡ within (treeIn links parents search) (netOf links parents search .search .depth) (s .climb .node)
-      (innerEnd (treeIn links parents search) (s .climb .node) (netOf links parents search .link e))
-  unfolding withinBy within netOf
+      → b ≡ within (treeOf g) (g .search .depth) (s .climb .node) (innerEnd (treeOf g) (s .climb .node) (g .link e))
+  unfolding withinBy within
   near-is b q =
       q
-      ∙ ap (λ (h : ℕ). eqb (search .depth) wholeSearch || leb h (search .depth))
-      (i .along .hops-is ∙ ap (hops (treeIn links parents search) (s .climb .node)) (sym (c .low)))
+      ∙ ap (λ (z : Search). eqb (z .depth) wholeSearch || leb (s .climb .hops) (z .depth)) (sym (h .search-is))
+      ∙ ap (λ (j : ℕ). eqb (g .search .depth) wholeSearch || leb j (g .search .depth))
+      (h .costing .stepping .carries .along .hops-is ∙ ap (hops (treeOf g) (s .climb .node)) (sym (h .costing .crossing .low)))
 
-  -- the new entry
-  grown :
-      (old new : Entry) (b : Bool) (v : Costs)
-      → old ≡ entry (firstLinks (netOf links parents search) e) (s .climb .node)
-      → b ≡ withinBy (search .depth) (s .climb .hops) → Priced (netOf links parents search) (s .climb .node) e v
-      → new ≡ offered old b e v → new ≡ entry (firstLinks (netOf links parents search) (suc e)) (s .climb .node)
-  grown old new b v p q r w =
-      w ∙ ap (λ (o : Entry). offered o b e v) p ∙
-      sym (entry-offered (netOf links parents search) (s .climb .node) off e (c .cross) b (near-is b q) v (r .sum-is) (r .incr-is) (r .max-is))
+  -- one that is
+  module _ (on : isAsked asked (s .climb .node) ≡ true) {old : Entry} (p : old ≡ entryAt row (s .climb .node)) {v : Costs}
+      (r : Priced g (s .climb .node) e v) where
+    was :
+        (before : List ℕ) (f : ℕ → List ℕ)
+        → Entries (g .nodes) f before row → f (s .climb .node) ≡ want g asked before e (s .climb .node)
+        → old ≡ entry (firstLinks g e) (s .climb .node)
+    was before f i w =
+        p ∙ entry-known _ f before row (s .climb .node) (entry (firstLinks g e) (s .climb .node)) i low (w ∙ want-marked g asked before e (s .climb .node) on)
 
-  pub offered-one :
-      (m : ℕ)
-      → m ≡ getD asked (s .climb .node) 0 → (m ≡ 0 → ⊥) → (row row′ : List ℕ) → length parents ≤ entriesIn row
-      → (old new : Entry) (b : Bool) (v : Costs) → old ≡ entryAt row (s .climb .node)
-      → b ≡ withinBy (search .depth) (s .climb .hops) → Priced (netOf links parents search) (s .climb .node) e v
-      → new ≡ offered old b e v → row′ ≡ putEntry row (s .climb .node) new
-      → OfferedAt (netOf links parents search) (length parents) asked e (s .climb .node) row row′
-  offered-one m q z row row′ room old new b v p bq r w u =
-      record {
-        goes-on =
-            λ before f h g.
-            let on = is-marked asked (s .climb .node) m q z in
-            let was =
-            entry-known _ f before row (s .climb .node)
-            (entry (firstLinks (netOf links parents search) e) (s .climb .node)) h x-low
-            (g ∙ want-marked (netOf links parents search) asked before e (s .climb .node) on) in
-            let new-is = grown old new b v (p ∙ was) bq r w in
-            rw u
-            (entries-same _ _ _ before _ (λ y l. told before f new-is on y (eqb (s .climb .node) y) refl)
-            (entries-put _ f before row (s .climb .node) new h x-low (omega (arith, h .size))));
-      }
-    where
-      told :
-          (before : List ℕ) (f : ℕ → List ℕ)
-          → new ≡ entry (firstLinks (netOf links parents search) (suc e)) (s .climb .node)
-          → isAsked asked (s .climb .node) ≡ true → (y : ℕ) (t : Bool) → eqb (s .climb .node) y ≡ t
-          → cond t (entryRow new) (f y) ≡ cond t (want (netOf links parents search) asked before (suc e) y) (f y)
-      told before f a on y true d =
-          subst (λ (j : ℕ). entryRow new ≡ want (netOf links parents search) asked before (suc e) j) (eqb-true (s .climb .node) y d)
-          (ap entryRow a ∙ sym (want-marked (netOf links parents search) asked before (suc e) (s .climb .node) on))
-      told before f a on y false d = refl
+    -- the entry of one more link
+    grown :
+        (b : Bool)
+        → b ≡ within (treeOf g) (g .search .depth) (s .climb .node) (innerEnd (treeOf g) (s .climb .node) (g .link e))
+        → old ≡ entry (firstLinks g e) (s .climb .node) → offered old b e v ≡ entry (firstLinks g (suc e)) (s .climb .node)
+    grown b q was =
+        ap (λ (o : Entry). offered o b e v) was ∙
+        sym (entry-offered g (s .climb .node) off e (h .costing .crossing .cross) b q v (r .sum-is) (r .incr-is) (r .max-is))
+
+    -- which it makes no better
+    pub offered-kept : noBetter old v ≡ true → OfferedAt g (g .nodes) asked e (s .climb .node) row row
+    offered-kept n =
+        offered-still g (g .nodes) asked e (s .climb .node) row
+        (λ before f i w.
+        let is = was before f i w in
+        let links = links-low g (s .climb .node) off e (subst (λ (o : Entry). eqb (o .state) swapState ≡ true) is (has-swap old v n)) in
+        let stays = stays-old old v n e (subst (λ (o : Entry). (o .sum .link < e) × (o .incr .link < e) × (o .max .link < e)) (sym is) links) _ in
+        w ∙ want-marked g asked before e (s .climb .node) on ∙ ap entryRow (sym is ∙ sym stays ∙ grown _ refl is)
+        ∙ sym (want-marked g asked before (suc e) (s .climb .node) on))
+
+    pub offered-one :
+        {b : Bool} {new : Entry} {row′ : List ℕ}
+        → b ≡ withinBy (search .depth) (s .climb .hops) → new ≡ offered old b e v
+        → row′ ≡ putEntry row (s .climb .node) new → OfferedAt g (g .nodes) asked e (s .climb .node) row row′
+    offered-one {b} {new} {row′} bq w u =
+        record {
+          goes-on =
+              λ before f i z.
+              let new-is = w ∙ grown b (near-is b bq) (was before f i z) in
+              rw u
+              (entries-same _ _ _ before _ (λ y l. told before f new-is y (eqb (s .climb .node) y) refl)
+              (entries-put _ f before row (s .climb .node) new i low (omega (arith, i .size, h .searching .room))));
+        }
+      where
+        told :
+            (before : List ℕ) (f : ℕ → List ℕ)
+            → new ≡ entry (firstLinks g (suc e)) (s .climb .node) → (y : ℕ) (t : Bool) → eqb (s .climb .node) y ≡ t
+            → cond t (entryRow new) (f y) ≡ cond t (want g asked before (suc e) y) (f y)
+        told before f a y true d =
+            subst (λ (j : ℕ). entryRow new ≡ want g asked before (suc e) j) (eqb-true (s .climb .node) y d)
+            (ap entryRow a ∙ sym (want-marked g asked before (suc e) (s .climb .node) on))
+        told before f a y false d = refl

@@ -1,10 +1,25 @@
 -- Two outcomes that a promise allows are equal: one theorem a public function, in the words of its contract. Assumes nothing.
 use Prim.Native.Nat.{ℕ}
 use mathlib.Core.List.{List}
+use Prim.Native.Nat.{_+_}
 use Rattle.edition.specs.declared.Search.{Search}
+use Rattle.entries.specs.Row.{pastEntries}
 use Rattle.network.specs.Network.{netOf}
-use Rattle.table.specs.Table.{tableVerdict, freshRow, tableRow, entryVerdict, entryAnswer}
+use Rattle.rows.specs.Count.{rowsTo}
+use Rattle.sound.specs.Surveyed.{soundRow}
+use Rattle.table.specs.Table.{freshAt, tableVerdict, workVerdict, freshRow, tableRow, entryVerdict, entryAnswer}
+use lib.ListN.{length}
+use mathlib.Core.List.{_++_}
 use Rattle.edition.proofs.Only.{One, one}
+
+-- `table::refresh_surveyed`
+pub one-refresh-surveyed :
+    (links parents : List ℕ) (search : Search) (survey asked entries : List ℕ) →
+    let g = netOf links parents search in
+    let n = length parents in
+    let before = entries in
+    One (rowsTo (freshAt g asked before) n ++ pastEntries n before)
+one-refresh-surveyed links parents search survey asked entries = one _
 
 -- `table::check_table`
 pub one-check-table :
@@ -12,6 +27,14 @@ pub one-check-table :
     let g = netOf links parents search in
     One (tableVerdict g entries)
 one-check-table links parents search entries = one _
+
+-- `table::survey_table`
+pub one-survey-table :
+    (links parents : List ℕ) (search : Search) (survey entries : List ℕ) →
+    let g = netOf links parents search in
+    One (workVerdict g survey entries)
+    × One (soundRow g survey)
+one-survey-table links parents search survey entries = (one _, one _)
 
 -- `table::refresh`
 pub one-refresh :

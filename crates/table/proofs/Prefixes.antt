@@ -1,7 +1,7 @@
 -- What one more link does to an entry: nothing where it does not cross, else what `offered` says. Assumes nothing.
 use mathlib.Core.Path.{_≡_, refl, sym, ap, _∙_}
 use mathlib.Core.Bool.{Bool, true, false, cond}
-use Prim.Native.Nat.{ℕ, suc}
+use Prim.Native.Nat.{ℕ, suc, _<_}
 use lib.Dec.{eqb}
 use Rattle.edition.specs.declared.Found.{Found}
 use Rattle.edition.specs.declared.Found.the-variants.{Nothing, At}
@@ -12,8 +12,8 @@ use Rattle.edition.specs.declared.Entry.{Entry}
 use Rattle.edition.specs.Entries.{rootState, swapState, noneState, bridgeState, blank}
 use Rattle.rows.specs.Count.{someTo}
 use Rattle.rows.specs.Work.{beats, bestTo}
-use Rattle.rows.proofs.Tests.{or-right, or-none}
-use Rattle.rows.proofs.Best.{isAt, some-found}
+use Rattle.rows.proofs.Tests.{clash, or-right, or-none}
+use Rattle.rows.proofs.Best.{isAt, some-found, Stands, nobody, somebody, stands}
 use Rattle.network.specs.Network.{Net}
 use Rattle.tree.specs.Tree.{treeOf}
 use Rattle.table.specs.declared.Offer.{Offer}
@@ -179,6 +179,27 @@ module _ (g : Net) (x : ℕ) where
     unfolding candidate
     entry-offered c true q k p i m = rw (entry-of (suc l) r, entry-of l r) (nearer l (rw (c, ← q)) k p i m)
     entry-offered c false q k p i m = rw (entry-of (suc l) r, entry-of l r) (deeper l c (rw (c, ← q)) k)
+
+  -- a swap link of the first k links is one of them
+  found-low : (s : Measure) (k : ℕ) {f : Found} → Stands (candidate g x) (before s g x) k f → isAt f ≡ true → priced s g x f .link < k
+  unfolding priced
+  found-low s k nobody e = clash e refl
+  found-low s k (somebody l m) e = l
+
+  swap-low : (s : Measure) (k : ℕ) → savedOf k ≡ true → priced s g x (bestOf s k) .link < k
+  unfolding savedOf bestOf
+  swap-low s k e =
+      found-low s k (stands (candidate g x) (before s g x) k) (sym (some-found (candidate g x) (before s g x) k) ∙ e)
+
+  pub links-low :
+      eqb x (g .search .root) ≡ false
+      → (k : ℕ) → eqb (entry (firstLinks g k) x .state) swapState ≡ true
+      → (entry (firstLinks g k) x .sum .link < k)
+      × (entry (firstLinks g k) x .incr .link < k) × (entry (firstLinks g k) x .max .link < k)
+  unfolding entryOf
+  links-low r k e =
+      let saved : savedOf k ≡ true = sym (had-one k) ∙ (rw (entry-of k r) at e) in
+      rw (entry-of k r) (swap-low Sum k saved, swap-low Incr k saved, swap-low Max k saved)
 
   -- the root's entry stays
   pub entry-top : eqb x (g .search .root) ≡ true → (k : ℕ) → entry (firstLinks g k) x ≡ blank rootState

@@ -7,13 +7,16 @@ use native.Mathlib.Omega.{arith}
 use lib.Dec.{eqb, ltb}
 use lib.ListN.{length}
 use borrow.Author.Tests.{eqb-true, eqb-false, ltb-true, ltb-false, lt-ltb, le-ltb}
+use Rattle.edition.specs.declared.Search.{Search}
 use Rattle.edition.specs.declared.Entry.{Entry}
 use Rattle.edition.specs.Entries.{rootState, bridgeState, blank}
-use Rattle.network.specs.Network.{Net}
-use Rattle.table.proofs.Prefixes.{entry-top, entry-none}
+use Rattle.network.specs.Network.{Net, netOf, linksIn}
+use Rattle.table.proofs.Prefixes.{entry-top, entry-none, entry-all}
 use Rattle.entries.specs.Row.{entryRow, entriesIn, standing, putEntry}
-use Rattle.table.specs.Table.{isAsked}
-use Rattle.table.specs.Work.{Entries, want, startAt, Linked, LinkedTo}
+use Rattle.tree.specs.Tree.{treeOf}
+use Rattle.sound.specs.Surveyed.{Surveyed}
+use Rattle.table.specs.Table.{isAsked, freshAt}
+use Rattle.table.specs.Work.{Anchored, Entries, Searching, want, startAt, Linked, LinkedTo}
 use Rattle.table.proofs.Slots.{entries-put}
 use Rattle.table.proofs.Offering.{entries-same}
 
@@ -118,3 +121,31 @@ to-more g n asked k row row′ row″ i z l =
 
 pub to-all : (g : Net) (n : ℕ) (asked : List ℕ) (k m : ℕ) (row row′ : List ℕ) → k ≡ m → LinkedTo g n asked k row row′ → LinkedTo g n asked m row row′
 to-all g n asked k m row row′ q i = subst (λ (j : ℕ). LinkedTo g n asked j row row′) q i
+
+-- a search from the cleared entries
+module _ (links parents : List ℕ) (search : Search) where
+  pub fresh-end :
+      (asked before row row′ : List ℕ)
+      → Entries (length parents) (startAt (search .root) asked before) before row
+      → LinkedTo (netOf links parents search) (netOf links parents search .nodes) asked (linksIn links) row row′
+      → Entries (length parents) (freshAt (netOf links parents search) asked before) before row′
+  unfolding netOf freshAt want
+  fresh-end asked before row row′ h l =
+      entries-same _ _ _ before row′ (λ x m. rw (entry-all (netOf links parents search) x))
+      (l .goes-on before (entries-same _ _ _ before row (λ x m. start-want (netOf links parents search) asked before x) h))
+
+-- what a search goes by stays while entries are written
+pub still-searching :
+    {g : Net} {asked survey anchors row row′ : List ℕ} {n k : ℕ}
+    → Searching g asked survey anchors row → LinkedTo g n asked k row row′ → Searching g asked survey anchors row′
+still-searching h l =
+    record { surveyed = h .surveyed; anchored = h .anchored; room = omega (arith, h .room, l .size) }
+
+pub searching-start :
+    (links parents : List ℕ) (search : Search) {asked survey anchors before row : List ℕ} {f : ℕ → List ℕ}
+    → Surveyed (netOf links parents search) survey → Anchored (treeOf (netOf links parents search)) asked anchors
+    → length parents ≤ entriesIn before → Entries (length parents) f before row
+    → Searching (netOf links parents search) asked survey anchors row
+unfolding netOf
+searching-start links parents search s a l h =
+    record { surveyed = s; anchored = a; room = omega (arith, h .size) }

@@ -1,154 +1,177 @@
 -- A climb from the lower end of a link, with what it carries. Assumes nothing.
-use mathlib.Core.Path.{_≡_, refl, sym, subst, ap, _∙_}
+use mathlib.Core.Path.{_≡_, refl, sym, ap, _∙_}
 use mathlib.Core.Bool.{true, false}
 use mathlib.Core.List.{List}
-use Prim.Native.Nat.{ℕ, _+_, _*_, _-_, _^_, _<_, _≤_, max}
+use Prim.Native.Nat.{ℕ, _+_, _-_, _%_, _^_, _<_, _≤_, max}
 use native.Mathlib.Omega.{arith}
 use lib.Dec.{eqb}
-use lib.ListN.{length, getD}
-use Rattle.edition.specs.declared.Search.{Search}
-use Rattle.edition.specs.declared.Verdict.the-variants.{Taken}
-use Rattle.edition.specs.Limits.{nodeLimit, longest}
-use Rattle.rows.specs.Count.{onlyIf}
-use Rattle.rows.proofs.Counting.{max-bound, only-small}
-use Rattle.network.specs.Network.{netOf}
+use borrow.Author.Tests.{ne-eqb}
+use Rattle.network.specs.Network.{Net}
 use Rattle.tree.specs.declared.Climb.{Climb}
-use Rattle.tree.specs.Tree.{dist, under}
+use Rattle.tree.specs.Tree.{treeOf, dist, under}
 use Rattle.tree.specs.Answers.{begun, stepped}
-use Rattle.tree.proofs.Ways.{Home, dist-up}
+use Rattle.tree.proofs.Ways.{Home, dist-up, dist-step}
 use Rattle.tree.proofs.Bounded.{under-below}
 use Rattle.tree.proofs.Climbing.{along-start, along-step, on-parent}
-use Rattle.tree.proofs.InRows.{treeIn, size-in, off-root, few}
-use Rattle.sound.specs.Sound.{netVerdict}
-use Rattle.swap.specs.Work.{deepest, beside, aside, reach}
-use Rattle.swap.proofs.Reaching.{reach-start, reach-step, aside-more}
+use Rattle.survey.specs.declared.Known.{Known}
+use Rattle.survey.specs.Known.{deepest, aside}
+use Rattle.survey.specs.Row.{nodesIn, knownAt}
+use Rattle.survey.proofs.Inside.{aside-more}
+use Rattle.swap.specs.Work.{reach}
+use Rattle.swap.proofs.Reaching.{reach-start, reach-step}
 use Rattle.table.specs.declared.Side.{Side}
-use Rattle.table.specs.Work.{Holds, Asides, Carries}
-use Rattle.table.proofs.Counts.{small, dist-few}
-use Rattle.table.proofs.BothSides.{all-in, closed-in}
-use Rattle.table.proofs.Passing.{up-low}
+use Rattle.table.specs.Work.{Starts, Started, Stepping, Stepped}
+use Rattle.table.proofs.Surveys.{size-is, in-tree, homes, closed, small, there, up-is, near-is, turn-is, deep-is, beside-is, dist-few, aside-few}
 
-module _ (links parents : List ℕ) (search : Search) (ok : netVerdict (netOf links parents search) ≡ Taken)
-    (held : (i : ℕ) → getD links i 0 ≤ longest) (near : List ℕ)
-    (h : Holds (length parents) (dist (treeIn links parents search)) near) where
-  low : (x : ℕ) → x < length parents → x < treeIn links parents search .size
-  low x l = rw (size-in links parents search) l
+module _ {g : Net} {row : List ℕ} {z : ℕ} (h : Starts g row z) where
+  pub start-there : z < nodesIn row
+  start-there = there (h .surveyed) z (h .low)
 
-  homes : (x : ℕ) → x < length parents → Home (treeIn links parents search) x
-  homes x l = all-in links parents search ok x (low x l)
+  start : reach (treeOf g) z z + dist (treeOf g) z ≡ deepest (treeOf g) z
+  start = reach-start (treeOf g) (homes (h .surveyed)) z (in-tree (h .surveyed) z (h .low))
 
-  aside-few : (x : ℕ) → aside (treeIn links parents search) x ≤ nodeLimit * longest
-  unfolding aside
-  aside-few x =
-      max-bound (λ u. onlyIf (beside (treeIn links parents search) x u) (dist (treeIn links parents search) u))
-      (treeIn links parents search .size) (nodeLimit * longest)
-      (λ u l. only-small (beside (treeIn links parents search) x u) (dist (treeIn links parents search) u)
-      (nodeLimit * longest) (λ e. dist-few links parents search ok held u))
+  module _ {k : Known} (q : k ≡ knownAt row z) where
+    near : k .near ≡ dist (treeOf g) z
+    near = near-is (h .surveyed) z (h .low) k q
 
-  module _ (deep : List ℕ) (k : Holds (length parents) (deepest (treeIn links parents search)) deep) (z : ℕ) (l : z < length parents) where
-    start : reach (treeIn links parents search) z z + dist (treeIn links parents search) z ≡ deepest (treeIn links parents search) z
-    start = reach-start (treeIn links parents search) (all-in links parents search ok) z (low z l)
+    deep : k .deep ≡ deepest (treeOf g) z
+    deep = deep-is (h .surveyed) z (h .low) k q
 
-    pub begin-less : getD near z 0 ≤ getD deep z 0
-    begin-less = omega (arith, h .each z l, k .each z l, start)
+    pub start-less : k .near ≤ k .deep
+    start-less = omega (arith, near, deep, start)
 
-    pub begin-carries :
-        (c : Climb) (a b : ℕ)
-        → c ≡ begun z → a ≡ getD deep z 0 → b ≡ getD near z 0
-        → Carries (treeIn links parents search) z (record { climb = c; from = z; reach = a - b }) × (c .node ≡ z)
+    pub started : {c : Climb} → c ≡ begun z → Started g z (record { climb = c; from = z; near = k .near; turn = k .turn; reach = k .deep - k .near })
     unfolding begun
-    begin-carries c a b q p r =
-        let e : c .node ≡ z = ap (λ (x : Climb). x .node) q in (
-          record {
-            along = along-start (treeIn links parents search) z (homes z l) c q;
-            from-is = refl;
-            reach-is = rw e (omega (arith, p, r, h .each z l, k .each z l, start));
-          },
-          e,
-        )
-
-  module _ (asides : List ℕ) (k : Asides (treeIn links parents search) (length parents) asides) (s : Side)
-      (i : Carries (treeIn links parents search) (s .from) s) (l : s .from < length parents)
-      (n : s .climb .node ≡ search .root → ⊥) where
-    x : ℕ
-    x = s .climb .node
-
-    r : eqb (s .climb .node) (treeIn links parents search .root) ≡ false
-    r = off-root links parents search (s .climb .node) n
-
-    on : under (treeIn links parents search) (s .climb .node) (s .from) ≡ true
-    on = i .along .on
-
-    pub node-low : s .climb .node < length parents
-    node-low =
-        subst (λ (m : ℕ). s .climb .node < m) (size-in links parents search)
-        (under-below (treeIn links parents search) (closed-in links parents search ok) (s .from) (s .climb .node)
-        (homes (s .from) l) (low (s .from) l) on)
-
-    up-there : treeIn links parents search .up (s .climb .node) < length parents
-    up-there = up-low links parents search ok (s .climb .node) node-low
-
-    module _ (c : Climb) (q : c ≡ stepped (treeIn links parents search) (s .climb)) where
-      next : c .node ≡ treeIn links parents search .up (s .climb .node)
-      unfolding stepped
-      next = ap (λ (y : Climb). y .node) q
-
-      pub next-low : c .node < length parents
-      next-low = rw next up-there
-
-      module _ (d : ℕ) (dq : d ≡ getD near (c .node) 0) where
-        d-is : d ≡ dist (treeIn links parents search) (treeIn links parents search .up (s .climb .node))
-        d-is = dq ∙ ap (λ (y : ℕ). getD near y 0) next ∙ h .each _ up-there
-
-        module _ (f : ℕ) (fq : f ≡ getD near (s .from) 0) where
-          f-is : f ≡ dist (treeIn links parents search) (s .from)
-          f-is = fq ∙ h .each (s .from) l
-
-          pub down-less : d ≤ f
-          down-less =
-              omega (
-                arith,
-                d-is,
-                f-is,
-                dist-up (treeIn links parents search) (s .from) (treeIn links parents search .up (s .climb .node))
-                    (homes (s .from) l)
-                    (on-parent (treeIn links parents search) (s .from) (homes (s .from) l) (s .climb .node) on r),
-              )
-
-          module _ (a : ℕ) (aq : a ≡ getD asides (s .climb .node) 0) where
-            a-is : a ≡ aside (treeIn links parents search) (s .climb .node)
-            a-is = aq ∙ k .each (s .climb .node) node-low r
-
-            pub over-less : d ≤ a
-            over-less =
-                omega (
-                  arith,
-                  d-is,
-                  a-is,
-                  aside-more (treeIn links parents search) (all-in links parents search ok) (s .climb .node)
-                      (s .from) (low (s .from) l) on r (low _ up-there),
-                )
-
-            pub over-fits : (f - d) + (a - d) < 2 ^ 64
-            over-fits = omega (arith, f-is, a-is, dist-few links parents search ok held (s .from), aside-few (s .climb .node))
-
-            pub step-carries :
-                (v : ℕ)
-                → v ≡ max (s .reach) ((f - d) + (a - d))
-                → Carries (treeIn links parents search) (s .from) (record { climb = c; from = s .from; reach = v })
-                × (c .node ≡ treeIn links parents search .up (s .climb .node)) × (s .from ≡ s .from)
-            step-carries v e = (
+    started {c} e =
+        let here : c .node ≡ z = ap (λ (x : Climb). x .node) e in
+        record {
+          carries =
               record {
-                along =
-                    along-step (treeIn links parents search) (s .from) (homes (s .from) l) (s .climb .node) on r
-                    (rw (size-in links parents search) (small links parents search ok held)) (few links parents search held) (s .climb) refl (i .along) c q;
+                along = along-start (treeOf g) z (homes (h .surveyed) z (in-tree (h .surveyed) z (h .low))) c e;
                 from-is = refl;
-                reach-is =
-                    e ∙ rw (next, d-is, f-is, a-is, i .reach-is)
-                    (sym
-                    (reach-step (treeIn links parents search) (all-in links parents search ok) (s .climb .node)
-                    (s .from) (low (s .from) l) on r (low _ up-there)));
-              },
-              next,
-              refl,
-            )
+                near-is = near;
+                turn-is = turn-is (h .surveyed) z (h .low) k q;
+                reach-is = rw here (omega (arith, near, deep, start));
+              };
+          here = here;
+        }
+
+module _ {g : Net} {row : List ℕ} {s : Side} (h : Stepping g row s) where
+  pub from-home : Home (treeOf g) (s .from)
+  from-home = homes (h .surveyed) (s .from) (in-tree (h .surveyed) (s .from) (h .low))
+
+  on : under (treeOf g) (s .climb .node) (s .from) ≡ true
+  on = h .carries .along .on
+
+  pub off : eqb (s .climb .node) (treeOf g .root) ≡ false
+  unfolding treeOf
+  off = ne-eqb (s .climb .node) (g .search .root) (h .below)
+
+  node-in : s .climb .node < treeOf g .size
+  node-in = under-below (treeOf g) (closed (h .surveyed)) (s .from) (s .climb .node) from-home (in-tree (h .surveyed) (s .from) (h .low)) on
+
+  pub node-low : s .climb .node < g .nodes
+  node-low = omega (arith, node-in, size-is (h .surveyed))
+
+  pub node-there : s .climb .node < nodesIn row
+  node-there = there (h .surveyed) (s .climb .node) node-low
+
+  up-in : treeOf g .up (s .climb .node) < treeOf g .size
+  up-in = closed (h .surveyed) (s .climb .node) node-in
+
+  up-low : treeOf g .up (s .climb .node) < g .nodes
+  up-low = omega (arith, up-in, size-is (h .surveyed))
+
+  module _ {x : Known} (xq : x ≡ knownAt row (s .climb .node)) where
+    next : x .up ≡ treeOf g .up (s .climb .node)
+    next = up-is (h .surveyed) (s .climb .node) node-low x xq
+
+    pub up-there : x .up < nodesIn row
+    up-there = rw next (there (h .surveyed) _ up-low)
+
+    pub up-fits : x .up < 2 ^ 64
+    up-fits = omega (arith, next, up-in, small (h .surveyed))
+
+    module _ {p : Known} (pq : p ≡ knownAt row (x .up)) where
+      p-near : p .near ≡ dist (treeOf g) (treeOf g .up (s .climb .node))
+      p-near = near-is (h .surveyed) _ up-low p (pq ∙ ap (knownAt row) next)
+
+      x-near : x .near ≡ dist (treeOf g) (s .climb .node)
+      x-near = near-is (h .surveyed) _ node-low x xq
+
+      x-beside : x .beside ≡ aside (treeOf g) (s .climb .node)
+      x-beside = beside-is (h .surveyed) _ node-low x xq
+
+      risen : x .near ≡ treeOf g .rise (s .climb .node) + p .near
+      risen =
+          omega (
+            arith,
+            x-near,
+            p-near,
+            dist-step (treeOf g) (s .climb .node) (homes (h .surveyed) _ node-in) off,
+          )
+
+      pub rise-less : p .near ≤ x .near
+      rise-less = omega (arith, risen)
+
+      pub down-less : p .near ≤ s .near
+      down-less =
+          omega (
+            arith,
+            p-near,
+            h .carries .near-is,
+            dist-up (treeOf g) (s .from) _ from-home (on-parent (treeOf g) (s .from) from-home (s .climb .node) on off),
+          )
+
+      pub over-less : p .near ≤ x .beside
+      over-less =
+          omega (
+            arith,
+            p-near,
+            x-beside,
+            aside-more (treeOf g) (homes (h .surveyed)) (s .climb .node) (s .from) (in-tree (h .surveyed) _ (h .low)) on off up-in,
+          )
+
+      pub over-fits : (s .near - p .near) + (x .beside - p .near) < 2 ^ 64
+      over-fits = omega (arith, h .carries .near-is, x-beside, dist-few (h .surveyed) (s .from), aside-few (h .surveyed) (s .climb .node))
+
+      step-climb :
+          {m d : ℕ}
+          → m ≡ (s .climb .hops + 1) % 2 ^ 64 → d ≡ (s .climb .dist + (x .near - p .near)) % 2 ^ 64
+          → _≡_ {A = Climb} (record { node = x .up; hops = m; dist = d }) (stepped (treeOf g) (s .climb))
+      unfolding stepped
+      step-climb {m} {d} mq dq =
+          let rise : x .near - p .near ≡ treeOf g .rise (s .climb .node) = omega (arith, risen) in
+          let far : d ≡ (s .climb .dist + treeOf g .rise (s .climb .node)) % 2 ^ 64 =
+          dq ∙ ap (λ (r : ℕ). (s .climb .dist + r) % 2 ^ 64) rise in
+          λ i. record { node = next i; hops = mq i; dist = far i }
+
+      pub stepped-on :
+          {m d v : ℕ}
+          → m ≡ (s .climb .hops + 1) % 2 ^ 64 → d ≡ (s .climb .dist + (x .near - p .near)) % 2 ^ 64
+          → v ≡ max (s .reach) ((s .near - p .near) + (x .beside - p .near))
+          → Stepped g s (record {
+            climb = record { node = x .up; hops = m; dist = d };
+            from = s .from;
+            near = s .near;
+            turn = s .turn;
+            reach = v;
+          })
+      stepped-on {m} {d} {v} mq dq vq =
+          record {
+            carries =
+                record {
+                  along =
+                      along-step (treeOf g) (s .from) from-home (s .climb .node) on off (small (h .surveyed)) (h .surveyed .few)
+                      (s .climb) refl (h .carries .along) _ (step-climb mq dq);
+                  from-is = refl;
+                  near-is = h .carries .near-is;
+                  turn-is = h .carries .turn-is;
+                  reach-is =
+                      vq ∙ rw (next, p-near, h .carries .near-is, x-beside, h .carries .reach-is)
+                      (sym
+                      (reach-step (treeOf g) (homes (h .surveyed)) (s .climb .node) (s .from) (in-tree (h .surveyed) _ (h .low)) on off up-in));
+                };
+            here = next;
+            from-is = refl;
+          }

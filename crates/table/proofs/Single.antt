@@ -4,7 +4,7 @@ use mathlib.Core.Bool.{true}
 use mathlib.Core.List.{List}
 use Prim.Native.Nat.{ℕ, _<_, _≤_}
 use native.Mathlib.Omega.{arith}
-use lib.ListN.{set, replicate, length-replicate}
+use lib.ListN.{length, set, replicate, length-replicate}
 use lib.Dec.{leb}
 use borrow.Author.Tests.{leb-false, le-ltb}
 use Rattle.edition.specs.declared.Verdict.{Verdict}
@@ -12,7 +12,9 @@ use Rattle.edition.specs.declared.Verdict.the-variants.{Taken, Refused}
 use Rattle.edition.specs.declared.Refusal.{Refusal}
 use Rattle.edition.specs.declared.Entry.{Entry}
 use Rattle.edition.specs.Limits.{nodeLimit, entryRoom}
-use Rattle.network.specs.Network.{Net}
+use Rattle.edition.specs.declared.Search.{Search}
+use Rattle.network.specs.Network.{Net, netOf}
+use Rattle.sound.specs.Surveyed.{Surveyed}
 use Rattle.sound.specs.declared.Sizes.{Sizes}
 use Rattle.sound.specs.declared.Checked.{Checked}
 use Rattle.sound.specs.declared.Checked.the-variants.{Sound}
@@ -26,7 +28,7 @@ use Rattle.table.specs.declared.EntryAnswer.the-variants.{Is, Not}
 use Rattle.table.specs.Work.{Entries}
 use Rattle.entries.specs.Row.{entriesIn, entryAt}
 use Rattle.rows.specs.First.{refuseIf}
-use Rattle.rows.proofs.Refusing.{head-taken, rest-taken, if-taken, if-passes, both-taken, none-left, head-refuses}
+use Rattle.rows.proofs.Refusing.{head-taken, rest-taken, if-taken, if-passes, both-taken, none-left, head-refuses, head-passes, only-one}
 use Rattle.edition.specs.declared.Why.the-variants.{NoRoute, NoRoom}
 use lib.Seq.{getD-set-same}
 use Rattle.table.proofs.Slots.{entry-known}
@@ -41,6 +43,10 @@ bareRow = replicate entryRoom 0
 
 pub bare-room : (n : ℕ) → n ≤ nodeLimit → n ≤ entriesIn bareRow
 bare-room n l = omega (arith, length-replicate {A = ℕ} entryRoom 0)
+
+pub parents-few : (links parents : List ℕ) (search : Search) {survey : List ℕ} → Surveyed (netOf links parents search) survey → length parents ≤ nodeLimit
+unfolding netOf
+parents-few links parents search s = nodes-few (netOf links parents search) (sound (netOf links parents search) (s .taken))
 
 -- a row for all nodes that there can be is never too short
 pub bare-verdict : (g : Net) (v : Verdict) → netVerdict g ≡ v → tableVerdict g bareRow ≡ v
@@ -66,6 +72,15 @@ entry-judged g x s z e t w q =
     q
     ∙ (λ i. refuseIf (leb (sound-told g s z e t .1 i) x) NoRoute x)
     ∙ handed-then g s e z t (refuseIf (leb (g .nodes) x) NoRoute x)
+
+-- the same by the verdict on the network
+pub entry-refused : (g : Net) (x : ℕ) (v : Verdict) (r : Refusal) → v ≡ netVerdict g → v ≡ Refused r → v ≡ entryVerdict g x
+unfolding entryVerdict
+entry-refused g x v r q t = t ∙ sym (head-refuses _ _ r (sym q ∙ t))
+
+pub entry-decided : (g : Net) (x : ℕ) → netVerdict g ≡ Taken → (w : Verdict) → w ≡ refuseIf (leb (g .nodes) x) NoRoute x → w ≡ entryVerdict g x
+unfolding entryVerdict
+entry-decided g x t w q = q ∙ sym (head-passes _ _ t ∙ only-one _)
 
 module _ (g : Net) (x : ℕ) where
   -- what the run leaves at x

@@ -1,5 +1,6 @@
--- Which links are offered: those out of service and the tree's own cross nothing. Assumes nothing.
-use mathlib.Core.Path.{_≡_, refl, sym, ap, _∙_}
+-- Which links are offered: those out of service and the tree's own cross nothing, and one whose ends have one anchor crosses no node
+-- asked for. Assumes nothing.
+use mathlib.Core.Path.{_≡_, refl, sym, subst, ap, _∙_}
 use mathlib.Core.Bool.{Bool, true, false, not, _&&_}
 use mathlib.Core.List.{List}
 use Prim.Native.Nat.{ℕ, _+_, _<_, _≤_, _^_}
@@ -8,25 +9,25 @@ use lib.Dec.{eqb}
 use lib.ListN.{length, getD}
 use borrow.Author.Tests.{eqb-true, eq-eqb, ne-eqb, not-false}
 use Rattle.edition.specs.declared.Search.{Search}
-use Rattle.edition.specs.declared.Verdict.the-variants.{Taken}
 use Rattle.edition.specs.Limits.{longest, noLink}
 use Rattle.rows.specs.Lists.{has, differ}
 use Rattle.rows.proofs.Tests.{not-so, and-none}
 use Rattle.network.specs.declared.Link.{Link}
 use Rattle.network.specs.Network.{Net, netOf, linkIn, linksIn, inService, otherEnd}
 use Rattle.network.specs.Records.{badParent}
-use Rattle.tree.specs.Tree.{treeOf, under, dist}
+use Rattle.tree.specs.Tree.{treeOf, under}
 use Rattle.tree.proofs.Ways.{route-step}
-use Rattle.tree.proofs.InRows.{treeIn}
-use Rattle.sound.specs.Sound.{netVerdict}
-use Rattle.sound.proofs.Sounds.{Sound, sound}
-use Rattle.sound.proofs.Holding.{first-in, second-in, ends-differ, links-few, home}
+use Rattle.sound.specs.Surveyed.{Surveyed}
+use Rattle.sound.proofs.Sounds.{Sound}
+use Rattle.sound.proofs.Holding.{first-in, second-in, ends-differ, nodes-few, links-few, home, up-in}
 use Rattle.swap.specs.Swap.{crosses}
 use Rattle.swap.specs.Work.{through}
 use Rattle.network.proofs.Whole.{length-held}
-use Rattle.table.specs.Work.{Holds, Carries, Spare, Starting, Linked}
+use Rattle.table.specs.Table.{isAsked}
+use Rattle.table.specs.Work.{Starts, Started, Searching, Spare, Climbing, Linked, anchor, Anchored}
 use Rattle.table.specs.declared.Side.{Side}
-use Rattle.table.proofs.Counts.{dist-few}
+use Rattle.table.proofs.Surveys.{fine, size-is, in-tree, dist-few}
+use Rattle.table.proofs.Anchors.{anchor-same}
 use Rattle.table.proofs.Offering.{entries-same}
 use Rattle.table.proofs.Linking.{want-kept}
 
@@ -34,7 +35,9 @@ differ-same : (a : Bool) → differ a a ≡ false
 differ-same true = refl
 differ-same false = refl
 
-linked-none : (g : Net) (n : ℕ) (asked : List ℕ) (e : ℕ) (row : List ℕ) → ((x : ℕ) → crosses (treeOf g) x e (g .link e) ≡ false) → Linked g n asked e row row
+linked-none :
+    (g : Net) (n : ℕ) (asked : List ℕ) (e : ℕ) (row : List ℕ)
+    → ((x : ℕ) → isAsked asked x ≡ true → crosses (treeOf g) x e (g .link e) ≡ false) → Linked g n asked e row row
 linked-none g n asked e row c =
     record { goes-on = λ before h. entries-same _ _ _ before row (λ x l. sym (want-kept g asked before e x (c x))) h }
 
@@ -90,14 +93,24 @@ module _ (g : Net) (s : Sound g) (e : ℕ) (there : e < g .links) where
   unfolding crosses
   idle q x = rw q
 
+  -- nor, where its ends have one anchor, any node asked for
+  one-anchor :
+      (asked : List ℕ)
+      → anchor (treeOf g) asked (g .link e .first) ≡ anchor (treeOf g) asked (g .link e .second) → (x : ℕ) → isAsked asked x ≡ true
+      → crosses (treeOf g) x e (g .link e) ≡ false
+  unfolding crosses treeOf
+  one-anchor asked q x o =
+      rw (
+        anchor-same (treeOf g) asked (home g s) (up-in g s) (nodes-few g s) _ _ (first-in g s e there) (second-in g s e there) q x o,
+        differ-same (under (treeOf g) x (g .link e .second)),
+        and-none (inService (g .link e) && not (eqb e (g .parent x))),
+      )
+
 module _ (links parents : List ℕ) (search : Search) where
   abbrev g : Net
   g = netOf links parents search
 
-  module _ (ok : netVerdict g ≡ Taken) (e : ℕ) (there : e < linksIn links) (l : Link) (lq : l ≡ linkIn links e) where
-    fine : Sound g
-    fine = sound g ok
-
+  module _ {survey : List ℕ} (sv : Surveyed g survey) {e : ℕ} (there : e < linksIn links) {l : Link} (lq : l ≡ linkIn links e) where
     in-net : e < g .links
     unfolding netOf
     in-net = there
@@ -110,70 +123,97 @@ module _ (links parents : List ℕ) (search : Search) where
     unfolding netOf
     parent-is u = refl
 
-    pub first-node : l .first < length parents
-    unfolding netOf
-    first-node = rw lq (first-in g fine e in-net)
+    pub first-node : l .first < g .nodes
+    first-node = subst (λ (z : Link). z .first < g .nodes) link-is (first-in g (fine sv) e in-net)
 
-    pub second-node : l .second < length parents
-    unfolding netOf
-    second-node = rw lq (second-in g fine e in-net)
+    pub second-node : l .second < g .nodes
+    second-node = subst (λ (z : Link). z .second < g .nodes) link-is (second-in g (fine sv) e in-net)
 
-    module _ (n : ℕ) (asked row : List ℕ) where
-      pub skip-idle : (b : Bool) → b ≡ inService l → b ≡ false → Linked g n asked e row row
-      skip-idle b q p = linked-none _ n asked e row (idle _ fine e in-net (ap inService link-is ∙ sym q ∙ p))
+    pub first-starts : Starts g survey (l .first)
+    first-starts = record { surveyed = sv; low = first-node }
 
-      pub skip-first : (p : ℕ) → p ≡ getD parents (l .first) noLink → p ≡ e → Linked g n asked e row row
-      skip-first p q r = linked-none _ n asked e row (own-first _ fine e in-net it)
+    pub second-starts : Starts g survey (l .second)
+    second-starts = record { surveyed = sv; low = second-node }
+
+    module _ (asked row : List ℕ) where
+      pub skip-idle : {b : Bool} → b ≡ inService l → b ≡ false → Linked g (g .nodes) asked e row row
+      skip-idle q p = linked-none _ _ asked e row (λ x o. idle _ (fine sv) e in-net (ap inService link-is ∙ sym q ∙ p) x)
+
+      pub skip-first : {p : ℕ} → p ≡ getD parents (l .first) noLink → p ≡ e → Linked g (g .nodes) asked e row row
+      skip-first q r = linked-none _ _ asked e row (λ x o. own-first _ (fine sv) e in-net it x)
         where
           it : g .parent (g .link e .first) ≡ e
           it = rw link-is (parent-is _ ∙ sym q ∙ r)
 
-      pub skip-second : (p : ℕ) → p ≡ getD parents (l .second) noLink → p ≡ e → Linked g n asked e row row
-      skip-second p q r = linked-none _ n asked e row (own-second _ fine e in-net it)
+      pub skip-second : {p : ℕ} → p ≡ getD parents (l .second) noLink → p ≡ e → Linked g (g .nodes) asked e row row
+      skip-second q r = linked-none _ _ asked e row (λ x o. own-second _ (fine sv) e in-net it x)
         where
           it : g .parent (g .link e .second) ≡ e
           it = rw link-is (parent-is _ ∙ sym q ∙ r)
 
-    -- the two climbs begin at the ends
-    pub starting :
-        (a b : Side)
-        → Carries (treeIn links parents search) (l .first) a × (a .climb .node ≡ l .first)
-        → Carries (treeIn links parents search) (l .second) b × (b .climb .node ≡ l .second)
-        → Starting g e a b
-    starting a b p q =
-        record {
-          one = rw link-is (p .0);
-          one-at = rw link-is (p .1);
-          two = rw link-is (q .0);
-          two-at = rw link-is (q .1);
-        }
+      module _ {anchors : List ℕ} (h : Anchored (treeOf g) asked anchors) where
+        pub first-anchored : l .first < length anchors
+        first-anchored = omega (arith, first-node, h .room, size-is sv)
 
-    -- what the code adds up for K is K
-    module _ (near : List ℕ) (h : Holds (length parents) (dist (treeIn links parents search)) near)
-        (held : (i : ℕ) → getD links i 0 ≤ longest) (f z : ℕ) (fq : f ≡ getD near (l .first) 0)
-        (zq : z ≡ getD near (l .second) 0) where
-      f-is : f ≡ dist (treeIn links parents search) (l .first)
-      f-is = fq ∙ h .each (l .first) first-node
+        pub second-anchored : l .second < length anchors
+        second-anchored = omega (arith, second-node, h .room, size-is sv)
 
-      z-is : z ≡ dist (treeIn links parents search) (l .second)
-      z-is = zq ∙ h .each (l .second) second-node
+        pub skip-anchored : getD anchors (l .first) 0 ≡ getD anchors (l .second) 0 → Linked g (g .nodes) asked e row row
+        skip-anchored q = linked-none _ _ asked e row (one-anchor _ (fine sv) e in-net asked same)
+          where
+            same : anchor (treeOf g) asked (g .link e .first) ≡ anchor (treeOf g) asked (g .link e .second)
+            same =
+                rw link-is
+                (sym (h .each _ (in-tree sv _ first-node)) ∙ q ∙ h .each _ (in-tree sv _ second-node))
 
-      pub k-fits : f + l .length + z < 2 ^ 64
-      k-fits = omega (arith, f-is, z-is, dist-few links parents search ok held (l .first), dist-few links parents search ok held (l .second), few-long)
-        where
-          few-long : l .length ≤ longest
-          few-long = rw lq (length-held links held e)
+    -- the two climbs begin at the ends, and what the code adds up for K is K
+    module _ {a b : Side} (p : Started g (l .first) a) (q : Started g (l .second) b) (held : (i : ℕ) → getD links i 0 ≤ longest) where
+      few-long : l .length ≤ longest
+      few-long = rw lq (length-held links held e)
 
-      pub spare :
-          (b : Bool)
-          → b ≡ inService l → b ≡ true → (p : ℕ) → p ≡ getD parents (l .first) noLink → (p ≡ e → ⊥) → (q : ℕ)
-          → q ≡ getD parents (l .second) noLink → (q ≡ e → ⊥) → Spare g e (f + l .length + z)
-      unfolding through
-      spare b bq bt p pq pn q qq qn =
-          record {
-            there = in-net;
-            serves = ap inService link-is ∙ sym bq ∙ bt;
-            not-first = λ r. pn (pq ∙ sym (parent-is (l .first)) ∙ (rw link-is at r));
-            not-second = λ r. qn (qq ∙ sym (parent-is (l .second)) ∙ (rw link-is at r));
-            through-is = rw (link-is, f-is, z-is);
-          }
+      pub k-fits : a .near + l .length + b .near < 2 ^ 64
+      k-fits =
+          omega (
+            arith,
+            p .carries .near-is,
+            q .carries .near-is,
+            dist-few sv (l .first),
+            dist-few sv (l .second),
+            few-long,
+          )
+
+      module _ {s : Bool} (sq : s ≡ inService l) (st : s ≡ true) {u : ℕ} (uq : u ≡ getD parents (l .first) noLink) (un : u ≡ e → ⊥)
+          {v : ℕ} (vq : v ≡ getD parents (l .second) noLink) (vn : v ≡ e → ⊥) where
+        spare : Spare g e (a .near + l .length + b .near)
+        unfolding through
+        spare =
+            record {
+              there = in-net;
+              serves = ap inService link-is ∙ sym sq ∙ st;
+              not-first = λ r. un (uq ∙ sym (parent-is (l .first)) ∙ (rw link-is at r));
+              not-second = λ r. vn (vq ∙ sym (parent-is (l .second)) ∙ (rw link-is at r));
+              through-is = rw (link-is, p .carries .near-is, q .carries .near-is);
+              long = rw link-is few-long;
+            }
+
+        search-is : g .search ≡ search
+        unfolding netOf
+        search-is = refl
+
+        pub climbing :
+            {asked anchors row : List ℕ}
+            → Searching g asked survey anchors row
+            → Climbing g search asked survey anchors row e (a .near + l .length + b .near) a b
+        climbing h =
+            record {
+              searching = h;
+              search-is = search-is;
+              spare = spare;
+              starting =
+                  record {
+                    one = rw link-is (p .carries);
+                    one-at = rw link-is (p .here);
+                    two = rw link-is (q .carries);
+                    two-at = rw link-is (q .here);
+                  };
+            }

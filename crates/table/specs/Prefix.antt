@@ -1,7 +1,7 @@
 -- What one more link does to an entry. No public promise cites this page: laws join it to the entry. Assumes nothing.
 use mathlib.Core.Bool.{Bool, true, false, cond, not, _&&_, _||_}
 use Prim.Native.Nat.{ℕ}
-use lib.Dec.{eqb, ltb}
+use lib.Dec.{eqb, ltb, leb}
 use Rattle.edition.specs.declared.Swap.{Swap}
 use Rattle.edition.specs.declared.Entry.{Entry}
 use Rattle.edition.specs.Entries.{swapState, noneState}
@@ -44,3 +44,8 @@ offered old false e c =
       incr = old .incr;
       max = old .max;
     }
+
+-- an entry has a swap link already, and no cost is lower than its own
+unfoldable pub noBetter : Entry → Costs → Bool
+noBetter old c =
+    eqb (old .state) swapState && not (ltb (c .sum) (old .sum .cost)) && not (ltb (c .incr) (old .incr .cost)) && leb (old .max .cost) (c .max)

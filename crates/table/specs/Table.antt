@@ -14,6 +14,7 @@ use Rattle.rows.specs.Count.{rowsTo}
 use Rattle.rows.specs.First.{refuseIf, firstly}
 use Rattle.network.specs.Network.{Net}
 use Rattle.sound.specs.Sound.{netVerdict}
+use Rattle.sound.specs.Surveyed.{soundVerdict}
 use Rattle.swap.specs.Entry.{entry}
 use Rattle.table.specs.declared.EntryAnswer.{EntryAnswer}
 use Rattle.table.specs.declared.EntryAnswer.the-variants.{Is, Not}
@@ -29,6 +30,10 @@ tableVerdict g row = firstly (netVerdict g ∷ refuseIf (ltb (entriesIn row) (g 
 -- What the lent row then holds: the table and what lay past it, or on a refusal what it held.
 unfoldable pub tableRow : Net → List ℕ → List ℕ
 tableRow g row = let new = table g ++ pastEntries (g .nodes) row in ifTaken (tableVerdict g row) new row
+
+-- 1 to 10 with a row to work in for the survey: before all of it 10, where that row has no room for a network at the limit.
+unfoldable pub workVerdict : Net → List ℕ → List ℕ → Verdict
+workVerdict g survey row = firstly (soundVerdict g survey ∷ refuseIf (ltb (entriesIn row) (g .nodes)) NoRoom 0 ∷ [])
 
 -- One node's entry: 1 to 9, then 8 at x where x is no node.
 unfoldable pub entryVerdict : Net → ℕ → Verdict

@@ -1,22 +1,26 @@
 // The table: all entries, some of them afresh, or one.
 ghost use mathlib.Core.Path.{_≡_};
-ghost use Prim.Native.Nat.{_+_, _*_, _<_, _≤_, _^_, max};
-ghost use lib.ListN.{length, getD};
+ghost use mathlib.Core.List.{List, _++_};
+ghost use Prim.Native.Nat.{ℕ, _+_, _*_, _<_, _≤_, _^_, max};
+ghost use lib.ListN.{length};
 ghost use lib.Dec.{eqb};
 ghost use mathlib.Core.Bool.{true, false, cond};
-ghost use Rattle.entries.specs.Row.{entriesIn, putEntry};
+ghost use Rattle.entries.specs.Row.{entriesIn, putEntry, pastEntries};
 ghost use Rattle.edition.specs.Entries.{blank, rootState, bridgeState};
+ghost use Rattle.edition.specs.Limits.{nodeLimit};
 ghost use Rattle.edition.specs.declared.Verdict.the-variants.{Taken};
-ghost use Rattle.network.specs.Network.{netOf, linksIn};
-ghost use Rattle.rows.specs.Count.{rowWith};
-ghost use Rattle.tree.specs.Tree.{treeOf, dist};
+ghost use Rattle.network.specs.Network.{Net, netOf, linksIn};
+ghost use Rattle.rows.specs.Count.{rowWith, rowsTo};
+ghost use Rattle.tree.specs.Tree.{treeOf};
+ghost use Rattle.survey.specs.Row.{nodesIn, knownAt};
 ghost use Rattle.sound.specs.Sound.{netVerdict};
+ghost use Rattle.sound.specs.Surveyed.{Surveyed, soundRow};
 ghost use Rattle.swap.specs.Entry.{entry};
-ghost use Rattle.swap.specs.Work.{count as countOf, weight as weightOf, stem, base as baseOf, turn as turnOf, deepest};
-ghost use Rattle.table.specs.Work.{Holds, FoldedAt, Foldable, Added, Counted, placed, Raised, Passed, Asides, Carries, Crossing, Priced, Ready};
-ghost use Rattle.table.specs.Work.{OfferedAt, withinBy, Spare, Starting, Linked, LinkedTo, Entries, startAt};
-ghost use Rattle.table.specs.Prefix.{better, kept, offered};
-ghost use Rattle.table.specs.Table.{isAsked, freshAt, tableVerdict, freshRow, tableRow, entryVerdict, entryAnswer};
+ghost use Rattle.table.specs.Work.{Starts, Started, Stepping, Stepped, Costing, Priced, Searching, Offering, OfferedAt, withinBy};
+ghost use Rattle.table.specs.Work.{Climbing, Linked, LinkedTo, Entries, startAt, anchor, Anchored, firstAnchor, Partly, Upward, Joined};
+ghost use Rattle.table.specs.Work.{Anchoring};
+ghost use Rattle.table.specs.Prefix.{better, noBetter, kept, offered};
+ghost use Rattle.table.specs.Table.{isAsked, freshAt, tableVerdict, workVerdict, freshRow, tableRow, entryVerdict, entryAnswer};
 use edition::Edition;
 use edition::Entry;
 use edition::Memory;
@@ -42,10 +46,13 @@ struct Costs {
     pub max: u64,
 }
 
-// A climb from the lower end of a link, with the largest tree distance from there to a node below where it is.
+// A climb from the lower end z of a link: z, its distance and its turn, and the largest tree distance from z to a node below where the
+// climb is.
 pub struct Side {
     pub climb: Climb,
     pub from: usize,
+    pub near: u64,
+    pub turn: u64,
     pub reach: u64,
 }
 
@@ -62,73 +69,6 @@ fn larger(a: u64, b: u64) -> u64
     if a < b { b } else { a }
 }
 
-// Node c counts one more, weighs v more and is at least as deep as v.
-fn fold_at(count: &mut [u64], weight: &mut [u64], deep: &mut [u64], c: usize, v: u64)
-    requires { ⌜ (c < length (now count))
-        × (c < length (now weight))
-        × (c < length (now deep))
-        × (getD (now count) c 0 + 1 < 2 ^ 64)
-        × (getD (now weight) c 0 + v < 2 ^ 64) ⌝ }
-    ensures { λ _.
-        ⌜ FoldedAt c v (now (count .entry)) (now (weight .entry)) (now (deep .entry)) (now (count .exit)) (now (weight .exit)) (now (deep .exit)) ⌝ }
-{
-    count[c] = count[c] + 1;
-    weight[c] = weight[c] + v;
-    deep[c] = larger(deep[c], v);
-}
-
-// Each node of the route of u counts one more, weighs v more and is at least as deep as v.
-fn fold_up(
-    links: &[u16],
-    parents: &[u16],
-    search: Search,
-    count: &mut [u64],
-    weight: &mut [u64],
-    deep: &mut [u64],
-    u: usize,
-    v: u64,
-)
-    requires { let g = netOf (now links) (now parents) search in
-        ⌜ (netVerdict g ≡ Taken)
-        × Foldable (length (now parents)) u v (now count) (now weight) (now deep) ⌝ }
-    ensures { λ _.
-        let g = netOf (now (links .entry)) (now (parents .entry)) search in
-        ⌜ Added (treeOf g) u v (now (count .entry)) (now (weight .entry)) (now (deep .entry)) (now (count .exit)) (now (weight .exit)) (now (deep .exit)) ⌝ }
-{
-    let mut c = u;
-    while c != search.root as usize {
-        fold_at(count, weight, deep, c, v);
-        c = tree::up(links, parents, search, c);
-    }
-    fold_at(count, weight, deep, c, v);
-}
-
-// Count, weight and depth of every node's subtree, by one climb a node. The rows begin with zeros.
-fn fold_all(
-    links: &[u16],
-    parents: &[u16],
-    search: Search,
-    near: &[u64],
-    count: &mut [u64],
-    weight: &mut [u64],
-    deep: &mut [u64],
-)
-    requires { let g = netOf (now links) (now parents) search in
-        let t = treeOf g in
-        ⌜ (netVerdict g ≡ Taken)
-        × Holds (length (now parents)) (dist t) (now near)
-        × Counted t 0 (now count) (now weight) (now deep) ⌝ }
-    ensures { λ _.
-        let g = netOf (now (links .entry)) (now (parents .entry)) search in
-        ⌜ Counted (treeOf g) (length (now (parents .entry))) (now (count .exit)) (now (weight .exit)) (now (deep .exit)) ⌝ }
-{
-    let mut u = 0;
-    while u < parents.len() {
-        fold_up(links, parents, search, count, weight, deep, u, near[u]);
-        u += 1;
-    }
-}
-
 // A product that fits.
 fn product(a: u64, b: u64) -> u64
     requires { ⌜ a * b < 2 ^ 64 ⌝ }
@@ -137,262 +77,57 @@ fn product(a: u64, b: u64) -> u64
     a * b
 }
 
-// The stem of x: for each step of its route, the nodes that the parent has more, at the parent's distance.
-fn stem_of(
-    links: &[u16],
-    parents: &[u16],
-    search: Search,
-    near: &[u64],
-    count: &[u64],
-    x: usize,
-) -> u64
-    requires { let g = netOf (now links) (now parents) search in
-        let t = treeOf g in
-        let n = length (now parents) in
-        ⌜ (netVerdict g ≡ Taken)
-        × Holds n (dist t) (now near)
-        × Holds n (countOf t) (now count)
-        × (x < n) ⌝ }
-    ensures { λ r.
-        let g = netOf (now (links .entry)) (now (parents .entry)) search in
-        ⌜ r ≡ stem (treeOf g) x ⌝ }
-{
-    let mut c = x;
-    let mut sum: u64 = 0;
-    while c != search.root as usize {
-        let p = tree::up(links, parents, search, c);
-        let more = rows::wide_at(count, p) - rows::wide_at(count, c);
-        sum = sum + product(more, rows::wide_at(near, p));
-        c = p;
-    }
-    sum
-}
-
-// The two numbers of every node by which a sum is known: base for the node that fails, turn for the lower end.
-fn fill_bases(
-    links: &[u16],
-    parents: &[u16],
-    search: Search,
-    near: &[u64],
-    count: &[u64],
-    weight: &[u64],
-    base: &mut [u64],
-    turn: &mut [u64],
-)
-    requires { let g = netOf (now links) (now parents) search in
-        let t = treeOf g in
-        let n = length (now parents) in
-        ⌜ (netVerdict g ≡ Taken)
-        × Holds n (dist t) (now near)
-        × Holds n (countOf t) (now count)
-        × Holds n (weightOf t) (now weight)
-        × (n ≤ length (now base))
-        × (n ≤ length (now turn)) ⌝ }
-    ensures { λ _.
-        let g = netOf (now (links .entry)) (now (parents .entry)) search in
-        let t = treeOf g in
-        let n = length (now (parents .entry)) in
-        ⌜ (now (base .exit) ≡ rowWith (baseOf t) n (now (base .entry)))
-        × (now (turn .exit) ≡ rowWith (turnOf t) n (now (turn .entry))) ⌝ }
-{
-    let mut x = 0;
-    while x < parents.len() {
-        let stem = stem_of(links, parents, search, near, count, x);
-        let own = product(rows::wide_at(count, x), rows::wide_at(near, x));
-        base[x] = rows::wide_at(weight, x) + 2 * stem;
-        turn[x] = 2 * (own + stem);
-        x += 1;
-    }
-}
-
-// Place j of n, from the front or from the back.
-fn place(n: usize, j: usize, back: bool) -> usize
-    requires { ⌜ j < n ⌝ }
-    ensures { λ r. ⌜ r ≡ placed back n j ⌝ }
-{
-    if back {
-        return n - 1 - j;
-    }
-    j
-}
-
-// One node of a pass: it is raised to the largest so far at its parent, and the parent to what is deepest below it.
-fn raise_at(
-    links: &[u16],
-    parents: &[u16],
-    search: Search,
-    deep: &[u64],
-    most: &mut [u64],
-    out: &mut [u64],
-    c: usize,
-)
-    requires { let g = netOf (now links) (now parents) search in
-        let n = length (now parents) in
-        ⌜ (netVerdict g ≡ Taken)
-        × Holds n (deepest (treeOf g)) (now deep)
-        × (n ≤ length (now most))
-        × (n ≤ length (now out))
-        × (c < n) ⌝ }
-    ensures { λ _.
-        let g = netOf (now (links .entry)) (now (parents .entry)) search in
-        ⌜ Raised (treeOf g) (length (now (parents .entry))) c (now (most .entry)) (now (out .entry)) (now (most .exit)) (now (out .exit)) ⌝ }
-{
-    if c == search.root as usize {
-        return;
-    }
-    let p = tree::up(links, parents, search, c);
-    out[c] = larger(out[c], most[p]);
-    most[p] = larger(most[p], rows::wide_at(deep, c));
-}
-
-// A pass over all nodes in number order, or from the back.
-fn pass(
-    links: &[u16],
-    parents: &[u16],
-    search: Search,
-    deep: &[u64],
-    back: bool,
-    most: &mut [u64],
-    out: &mut [u64],
-)
-    requires { let g = netOf (now links) (now parents) search in
-        let n = length (now parents) in
-        ⌜ (netVerdict g ≡ Taken)
-        × Holds n (deepest (treeOf g)) (now deep)
-        × (n ≤ length (now most))
-        × (n ≤ length (now out)) ⌝ }
-    ensures { λ _.
-        let g = netOf (now (links .entry)) (now (parents .entry)) search in
-        ⌜ Passed (treeOf g) back (length (now (parents .entry))) (now (most .entry)) (now (out .entry)) (now (out .exit)) ⌝ }
-{
-    let mut j = 0;
-    while j < parents.len() {
-        let c = place(parents.len(), j, back);
-        raise_at(links, parents, search, deep, most, out, c);
-        j += 1;
-    }
-}
-
-// What is beside every node but the root, by a pass from either side. The row begins with zeros.
-fn fill_asides(links: &[u16], parents: &[u16], search: Search, deep: &[u64], out: &mut [u64])
-    requires { let g = netOf (now links) (now parents) search in
-        let n = length (now parents) in
-        ⌜ (netVerdict g ≡ Taken)
-        × Holds n (deepest (treeOf g)) (now deep)
-        × Holds n (λ x. 0) (now out) ⌝ }
-    ensures { λ _.
-        let g = netOf (now (links .entry)) (now (parents .entry)) search in
-        ⌜ Asides (treeOf g) (length (now (parents .entry))) (now (out .exit)) ⌝ }
-{
-    let mut first = [0u64; Memory::NODES];
-    tree::distances(links, parents, search, &mut first);
-    pass(links, parents, search, deep, false, &mut first, out);
-    let mut second = [0u64; Memory::NODES];
-    pass(links, parents, search, deep, true, &mut second, out);
-}
-
 // A climb that begins at z.
-fn begin_side(
-    links: &[u16],
-    parents: &[u16],
-    search: Search,
-    near: &[u64],
-    deep: &[u64],
-    z: usize,
-) -> Side
-    requires { let g = netOf (now links) (now parents) search in
-        let t = treeOf g in
-        let n = length (now parents) in
-        ⌜ (netVerdict g ≡ Taken)
-        × Holds n (dist t) (now near)
-        × Holds n (deepest t) (now deep)
-        × (z < n) ⌝ }
-    ensures { λ r.
-        let g = netOf (now (links .entry)) (now (parents .entry)) search in
-        ⌜ Carries (treeOf g) z r
-        × (r .climb .node ≡ z) ⌝ }
+fn begin_side(survey: &[u64], z: usize) -> Side
+    requires { ⌜ ((g : Net) × Starts g (now survey) z) ⌝ }
+    ensures { λ r. ⌜ ((g : Net) → Starts g (now (survey .entry)) z → Started g z r) ⌝ }
 {
+    let k = survey::known_at(survey, z);
     Side {
         climb: Climb::begin(z),
         from: z,
-        reach: rows::wide_at(deep, z) - rows::wide_at(near, z),
+        near: k.near,
+        turn: k.turn,
+        reach: k.deep - k.near,
     }
 }
 
-// One step up.
-fn step_side(
-    side: Side,
-    links: &[u16],
-    parents: &[u16],
-    search: Search,
-    near: &[u64],
-    asides: &[u64],
-) -> Side
-    requires { let g = netOf (now links) (now parents) search in
-        let t = treeOf g in
-        let n = length (now parents) in
-        ⌜ (netVerdict g ≡ Taken)
-        × Holds n (dist t) (now near)
-        × Asides t n (now asides)
-        × Carries t (side .from) side
-        × (side .from < n)
-        × (side .climb .node ≡ search .root → ⊥) ⌝ }
-    ensures { λ r.
-        let g = netOf (now (links .entry)) (now (parents .entry)) search in
-        ⌜ Carries (treeOf g) (side .from) r
-        × (r .climb .node ≡ treeOf g .up (side .climb .node))
-        × (r .from ≡ side .from) ⌝ }
-{
-    let old = side.climb;
-    let climb = old.step(links, parents, search);
-    let x = old.node;
-    let p = climb.node;
-    let z = side.from;
-    let d = near[p];
-    let down = near[z] - d;
-    let over = asides[x] - d;
-    Side {
-        climb,
-        from: z,
-        reach: larger(side.reach, down + over),
+impl Side {
+    // One step up, by the records: the next node, one hop more, and the distance to it.
+    fn step(self, survey: &[u64]) -> Side
+        requires { ⌜ ((g : Net) × Stepping g (now survey) self) ⌝ }
+        ensures { λ r. ⌜ ((g : Net) → Stepping g (now (survey .entry)) self → Stepped g self r) ⌝ }
+    {
+        let old = self.climb;
+        let x = survey::known_at(survey, old.node);
+        let up = x.up as usize;
+        let p = survey::known_at(survey, up);
+        let climb = Climb {
+            node: up,
+            hops: std::num::wrapping_add_usize(old.hops, 1),
+            dist: std::num::wrapping_add_u64(old.dist, x.near - p.near),
+        };
+        Side {
+            climb,
+            from: self.from,
+            near: self.near,
+            turn: self.turn,
+            reach: larger(self.reach, (self.near - p.near) + (x.beside - p.near)),
+        }
     }
 }
 
-// What link e costs the node where the climb is, by the rows and what is carried.
-fn costs_of(
-    links: &[u16],
-    parents: &[u16],
-    search: Search,
-    near: &[u64],
-    count: &[u64],
-    bases: &[u64],
-    turns: &[u64],
-    side: Side,
-    e: usize,
-    k: u64,
-) -> Costs
-    requires { let g = netOf (now links) (now parents) search in
-        let t = treeOf g in
-        let n = length (now parents) in
-        ⌜ (netVerdict g ≡ Taken)
-        × Ready t n (now near) (now count) (now bases) (now turns)
-        × Carries t (side .from) side
-        × (side .from < n)
-        × Crossing g e side k ⌝ }
-    ensures { λ r.
-        let g = netOf (now (links .entry)) (now (parents .entry)) search in
-        ⌜ Priced g (side .climb .node) e r ⌝ }
+// What a link costs the node where the climb is, by the survey and what is carried; k is the way through the link.
+fn costs_of(survey: &[u64], side: Side, k: u64) -> Costs
+    requires { ⌜ ((g : Net) × (e : ℕ) × Costing g (now survey) e k side) ⌝ }
+    ensures { λ r. ⌜ ((g : Net) (e : ℕ) → Costing g (now (survey .entry)) e k side → Priced g (side .climb .node) e r) ⌝ }
 {
     let climb = side.climb;
-    let x = climb.node;
-    let z = side.from;
-    let whole = bases[x] + product(count[x], k);
-    let d = near[x];
-    let farthest = side.reach + (k - near[z]);
+    let x = survey::known_at(survey, climb.node);
     Costs {
-        sum: whole - turns[z],
-        incr: k - 2 * d,
-        max: farthest,
+        sum: x.base + product(x.count, k) - side.turn,
+        incr: k - 2 * x.near,
+        max: side.reach + (k - side.near),
     }
 }
 
@@ -500,55 +235,55 @@ fn with_link(old: Entry, near: bool, e: u64, c: Costs) -> Entry
     with_crossing(old, e, c)
 }
 
+// Whether an entry has a swap link already and no cost of a link is lower than its own.
+fn no_better(old: Entry, c: Costs) -> bool
+    ensures { λ r. ⌜ r ≡ noBetter old c ⌝ }
+{
+    if old.state != Edition::SWAP {
+        return false;
+    }
+    let s = old.sum;
+    let i = old.incr;
+    let m = old.max;
+    if c.sum < s.cost {
+        return false;
+    }
+    if c.incr < i.cost {
+        return false;
+    }
+    m.cost <= c.max
+}
+
 // Offers link e to the node where the climb is, where that node is asked for.
 fn offer_at(
-    links: &[u16],
-    parents: &[u16],
     search: Search,
-    near: &[u64],
-    count: &[u64],
-    bases: &[u64],
-    turns: &[u64],
-    asked: &[u64],
+    survey: &[u64],
+    anchors: &[u16],
     entries: &mut [u64],
     side: Side,
     e: usize,
     k: u64,
 )
-    requires { let g = netOf (now links) (now parents) search in
-        let t = treeOf g in
-        let n = length (now parents) in
-        ⌜ (netVerdict g ≡ Taken)
-        × Ready t n (now near) (now count) (now bases) (now turns)
-        × Carries t (side .from) side
-        × (side .from < n)
-        × Crossing g e side k
-        × (side .climb .node ≡ search .root → ⊥)
-        × (n ≤ entriesIn (now entries)) ⌝ }
+    requires { ⌜ ((g : Net) × (asked : List ℕ) × Offering g search asked (now survey) (now anchors) (now entries) e k side) ⌝ }
     ensures { λ _.
-        let g = netOf (now (links .entry)) (now (parents .entry)) search in
-        ⌜ OfferedAt g (length (now (parents .entry))) (now (asked .entry)) e (side .climb .node) (now (entries .entry)) (now (entries .exit)) ⌝ }
+        let row = now (entries .entry) in
+        ⌜ ((g : Net) (asked : List ℕ)
+        → Offering g search asked (now (survey .entry)) (now (anchors .entry)) row e k side
+        → OfferedAt g (g .nodes) asked e (side .climb .node) row (now (entries .exit))) ⌝ }
 {
     let climb = side.climb;
     let x = climb.node;
-    if rows::wide_at(asked, x) == 0 {
+    if anchors[x] as usize != x + 1 {
         return;
     }
-    let c = costs_of(
-        links,
-        parents,
-        search,
-        near,
-        count,
-        bases,
-        turns,
-        side,
-        e,
-        k,
-    );
+    let c = costs_of(survey, side, k);
+    let old = entries::entry_there(entries, x);
+    if no_better(old, c) {
+        return;
+    }
     let near_enough = is_within(search.depth, climb.hops);
-    let new = with_link(entries::entry_at(entries, x), near_enough, e as u64, c);
-    entries::put_entry(entries, x, new);
+    let new = with_link(old, near_enough, e as u64, c);
+    entries::put_there(entries, x, new);
 }
 
 // The node where a climb is.
@@ -560,96 +295,64 @@ fn node_of(side: Side) -> usize
 }
 
 // How many nodes are below where a climb is, itself among them.
-fn below(count: &[u64], side: Side) -> u64
-    requires { ⌜ side .climb .node < length (now count) ⌝ }
-    ensures { λ r. ⌜ r ≡ getD (now (count .entry)) (side .climb .node) 0 ⌝ }
+fn below(survey: &[u64], side: Side) -> u64
+    requires { ⌜ side .climb .node < nodesIn (now survey) ⌝ }
+    ensures { λ r. ⌜ r ≡ knownAt (now (survey .entry)) (side .climb .node) .count ⌝ }
 {
-    count[node_of(side)]
+    let k = survey::known_at(survey, node_of(side));
+    k.count
 }
 
 // Offers link e to every node asked for that it crosses, by a climb from each end up to where the routes meet.
 fn climb_link(
-    links: &[u16],
-    parents: &[u16],
     search: Search,
-    near: &[u64],
-    count: &[u64],
-    bases: &[u64],
-    turns: &[u64],
-    asides: &[u64],
-    asked: &[u64],
+    survey: &[u64],
+    anchors: &[u16],
     entries: &mut [u64],
     first: Side,
     second: Side,
     e: usize,
     k: u64,
 )
-    requires { let g = netOf (now links) (now parents) search in
-        let t = treeOf g in
-        let n = length (now parents) in
-        ⌜ (netVerdict g ≡ Taken)
-        × Ready t n (now near) (now count) (now bases) (now turns)
-        × Asides t n (now asides)
-        × Spare g e k
-        × Starting g e first second
-        × (n ≤ entriesIn (now entries)) ⌝ }
+    requires { ⌜ ((g : Net) × (asked : List ℕ) × Climbing g search asked (now survey) (now anchors) (now entries) e k first second) ⌝ }
     ensures { λ _.
-        let g = netOf (now (links .entry)) (now (parents .entry)) search in
-        ⌜ Linked g (length (now (parents .entry))) (now (asked .entry)) e (now (entries .entry)) (now (entries .exit)) ⌝ }
+        let row = now (entries .entry) in
+        ⌜ ((g : Net) (asked : List ℕ)
+        → Climbing g search asked (now (survey .entry)) (now (anchors .entry)) row e k first second
+        → Linked g (g .nodes) asked e row (now (entries .exit))) ⌝ }
 {
     let mut a = first;
     let mut b = second;
     while node_of(a) != node_of(b) {
-        if below(count, b) < below(count, a) {
-            let other = a;
-            a = b;
-            b = other;
+        if below(survey, b) < below(survey, a) {
+            offer_at(search, survey, anchors, entries, b, e, k);
+            b = b.step(survey);
+        } else {
+            offer_at(search, survey, anchors, entries, a, e, k);
+            a = a.step(survey);
         }
-        offer_at(
-            links,
-            parents,
-            search,
-            near,
-            count,
-            bases,
-            turns,
-            asked,
-            entries,
-            a,
-            e,
-            k,
-        );
-        a = step_side(a, links, parents, search, near, asides);
     }
 }
 
-// Offers link e to every node asked for that it crosses; a link out of service and a tree link cross none.
+// Offers link e to every node asked for that it crosses. A link out of service and a tree link cross none; a link whose ends have one
+// anchor crosses none that is asked for.
 fn offer_link(
     links: &[u16],
     parents: &[u16],
     search: Search,
-    near: &[u64],
-    count: &[u64],
-    deep: &[u64],
-    bases: &[u64],
-    turns: &[u64],
-    asides: &[u64],
-    asked: &[u64],
+    survey: &[u64],
+    anchors: &[u16],
     entries: &mut [u64],
     e: usize,
 )
     requires { let g = netOf (now links) (now parents) search in
-        let t = treeOf g in
-        let n = length (now parents) in
-        ⌜ (netVerdict g ≡ Taken)
-        × Ready t n (now near) (now count) (now bases) (now turns)
-        × Asides t n (now asides)
-        × Holds n (deepest t) (now deep)
-        × (n ≤ entriesIn (now entries))
-        × (e < linksIn (now links)) ⌝ }
+        ⌜ ((asked : List ℕ) × Searching g asked (now survey) (now anchors) (now entries) × (e < linksIn (now links))) ⌝ }
     ensures { λ _.
         let g = netOf (now (links .entry)) (now (parents .entry)) search in
-        ⌜ Linked g (length (now (parents .entry))) (now (asked .entry)) e (now (entries .entry)) (now (entries .exit)) ⌝ }
+        let row = now (entries .entry) in
+        ⌜ ((asked : List ℕ)
+        → Searching g asked (now (survey .entry)) (now (anchors .entry)) row
+        → Linked g (g .nodes) asked e row (now (entries .exit))) ⌝ }
 {
     let l = network::link_at(links, e);
     if !network::in_service(l) {
@@ -663,25 +366,13 @@ fn offer_link(
     if network::parent_of(parents, q) as usize == e {
         return;
     }
-    let k = rows::wide_at(near, p) + l.length as u64 + rows::wide_at(near, q);
-    let a = begin_side(links, parents, search, near, deep, p);
-    let b = begin_side(links, parents, search, near, deep, q);
-    climb_link(
-        links,
-        parents,
-        search,
-        near,
-        count,
-        bases,
-        turns,
-        asides,
-        asked,
-        entries,
-        a,
-        b,
-        e,
-        k,
-    );
+    if anchors[p] == anchors[q] {
+        return;
+    }
+    let a = begin_side(survey, p);
+    let b = begin_side(survey, q);
+    let k = a.near + l.length as u64 + b.near;
+    climb_link(search, survey, anchors, entries, a, b, e, k);
 }
 
 // The entry of x before any link: the root's, or a bridge's.
@@ -727,99 +418,164 @@ fn offer_links(
     links: &[u16],
     parents: &[u16],
     search: Search,
-    near: &[u64],
-    count: &[u64],
-    deep: &[u64],
-    bases: &[u64],
-    turns: &[u64],
-    asides: &[u64],
-    asked: &[u64],
+    survey: &[u64],
+    anchors: &[u16],
     entries: &mut [u64],
 )
     requires { let g = netOf (now links) (now parents) search in
-        let t = treeOf g in
-        let n = length (now parents) in
-        ⌜ (netVerdict g ≡ Taken)
-        × Ready t n (now near) (now count) (now bases) (now turns)
-        × Asides t n (now asides)
-        × Holds n (deepest t) (now deep)
-        × (n ≤ entriesIn (now entries)) ⌝ }
+        ⌜ ((asked : List ℕ) × Searching g asked (now survey) (now anchors) (now entries)) ⌝ }
     ensures { λ _.
         let g = netOf (now (links .entry)) (now (parents .entry)) search in
-        ⌜ LinkedTo g (length (now (parents .entry))) (now (asked .entry)) (linksIn (now (links .entry))) (now (entries .entry)) (now (entries .exit)) ⌝ }
+        let row = now (entries .entry) in
+        ⌜ ((asked : List ℕ)
+        → Searching g asked (now (survey .entry)) (now (anchors .entry)) row
+        → LinkedTo g (g .nodes) asked (linksIn (now (links .entry))) row (now (entries .exit))) ⌝ }
 {
     let m = network::links_in(links);
     let mut e = 0;
     while e < m {
-        offer_link(
-            links,
-            parents,
-            search,
-            near,
-            count,
-            deep,
-            bases,
-            turns,
-            asides,
-            asked,
-            entries,
-            e,
-        );
+        offer_link(links, parents, search, survey, anchors, entries, e);
         e += 1;
     }
 }
 
-// The entries of the nodes asked for afresh; all others, and what lies past the entries, stay as they are.
-fn search_asked(links: &[u16], parents: &[u16], search: Search, asked: &[u64], entries: &mut [u64])
+// The anchor of x where x is asked for, and that of no node where x is the root and is not; 0 elsewhere.
+fn first_anchor(asked: &[u64], root: usize, x: usize) -> u16
+    requires { ⌜ x < nodeLimit ⌝ }
+    ensures { λ r. ⌜ r ≡ firstAnchor (now (asked .entry)) root x ⌝ }
+{
+    if rows::wide_at(asked, x) != 0 {
+        return x as u16 + 1;
+    }
+    if x == root {
+        return Edition::NO_NODE;
+    }
+    0
+}
+
+// The first anchors of n nodes.
+fn mark_anchors(asked: &[u64], root: usize, n: usize, anchors: &mut [u16])
+    requires { ⌜ (n ≤ nodeLimit) × (n ≤ length (now anchors)) ⌝ }
+    ensures { λ _. ⌜ now (anchors .exit) ≡ rowWith (firstAnchor (now (asked .entry)) root) n (now (anchors .entry)) ⌝ }
+{
+    let mut x = 0;
+    while x < n {
+        anchors[x] = first_anchor(asked, root, x);
+        x += 1;
+    }
+}
+
+// The anchor of u: that of the first node up from it that has one.
+fn find_anchor(survey: &[u64], anchors: &[u16], u: usize) -> u16
+    requires { ⌜ ((g : Net) × (asked : List ℕ) × Upward g asked (now survey) (now anchors) u) ⌝ }
+    ensures { λ r.
+        ⌜ ((g : Net) (asked : List ℕ)
+        → Upward g asked (now (survey .entry)) (now (anchors .entry)) u
+        → r ≡ anchor (treeOf g) asked u) ⌝ }
+{
+    let mut c = u;
+    while anchors[c] == 0 {
+        let k = survey::known_at(survey, c);
+        c = k.up as usize;
+    }
+    anchors[c]
+}
+
+// Writes the anchor of u to u and every node up from it that has none yet.
+fn join_up(survey: &[u64], anchors: &mut [u16], u: usize, a: u16)
+    requires { ⌜ ((g : Net) × (asked : List ℕ) × Upward g asked (now survey) (now anchors) u × (a ≡ anchor (treeOf g) asked u)) ⌝ }
+    ensures { λ _.
+        let row = now (anchors .entry) in
+        ⌜ ((g : Net) (asked : List ℕ)
+        → Upward g asked (now (survey .entry)) row u
+        → a ≡ anchor (treeOf g) asked u
+        → Joined g asked (now (survey .entry)) u row (now (anchors .exit))) ⌝ }
+{
+    let mut c = u;
+    while anchors[c] == 0 {
+        anchors[c] = a;
+        let k = survey::known_at(survey, c);
+        c = k.up as usize;
+    }
+}
+
+// The anchor of every node, from the first ones. Each node is written once.
+fn join_anchors(survey: &[u64], n: usize, anchors: &mut [u16])
+    requires { ⌜ ((g : Net) × (asked : List ℕ) × Partly g asked (now survey) (now anchors) × (g .nodes ≡ n)) ⌝ }
+    ensures { λ _.
+        ⌜ ((g : Net) (asked : List ℕ)
+        → Partly g asked (now (survey .entry)) (now (anchors .entry))
+        → g .nodes ≡ n
+        → Anchored (treeOf g) asked (now (anchors .exit))) ⌝ }
+{
+    let mut u = 0;
+    while u < n {
+        let a = find_anchor(survey, anchors, u);
+        join_up(survey, anchors, u, a);
+        u += 1;
+    }
+}
+
+// The anchor of every node: the first node on its route that is asked for, plus 1.
+fn fill_anchors(survey: &[u64], asked: &[u64], root: usize, n: usize, anchors: &mut [u16])
+    requires { ⌜ ((g : Net) × Anchoring g (now survey) root n (now anchors)) ⌝ }
+    ensures { λ _.
+        ⌜ ((g : Net)
+        → Anchoring g (now (survey .entry)) root n (now (anchors .entry))
+        → Anchored (treeOf g) (now (asked .entry)) (now (anchors .exit))) ⌝ }
+{
+    mark_anchors(asked, root, n, anchors);
+    join_anchors(survey, n, anchors);
+}
+
+// The entries of the nodes asked for afresh, by a survey of a sound network; all others, and what lies past the entries, stay.
+fn search_asked(
+    links: &[u16],
+    parents: &[u16],
+    search: Search,
+    survey: &[u64],
+    asked: &[u64],
+    entries: &mut [u64],
+)
     requires { let g = netOf (now links) (now parents) search in
-        ⌜ (netVerdict g ≡ Taken)
+        ⌜ Surveyed g (now survey)
         × (length (now parents) ≤ entriesIn (now entries)) ⌝ }
     ensures { λ _.
         let g = netOf (now (links .entry)) (now (parents .entry)) search in
         ⌜ Entries (length (now (parents .entry))) (freshAt g (now (asked .entry)) (now (entries .entry))) (now (entries .entry)) (now (entries .exit)) ⌝ }
 {
-    let mut near = [0u64; Memory::NODES];
-    tree::distances(links, parents, search, &mut near);
-    let mut count = [0u64; Memory::NODES];
-    let mut weight = [0u64; Memory::NODES];
-    let mut deep = [0u64; Memory::NODES];
-    fold_all(
-        links,
-        parents,
-        search,
-        &near,
-        &mut count,
-        &mut weight,
-        &mut deep,
-    );
-    let mut bases = [0u64; Memory::NODES];
-    let mut turns = [0u64; Memory::NODES];
-    fill_bases(
-        links,
-        parents,
-        search,
-        &near,
-        &count,
-        &weight,
-        &mut bases,
-        &mut turns,
-    );
-    let mut asides = [0u64; Memory::NODES];
-    fill_asides(links, parents, search, &deep, &mut asides);
-    clear_asked(parents, search, asked, entries);
-    offer_links(
-        links,
-        parents,
-        search,
-        &near,
-        &count,
-        &deep,
-        &bases,
-        &turns,
-        &asides,
+    let mut anchors = [0u16; Memory::NODES];
+    fill_anchors(
+        survey,
         asked,
-        entries,
+        search.root as usize,
+        parents.len(),
+        &mut anchors,
     );
+    clear_asked(parents, search, asked, entries);
+    offer_links(links, parents, search, survey, &anchors, entries);
+}
+
+// The entries of the nodes asked for afresh, by a survey of the network, which is sound; all others, and what lies past the
+// entries, stay as they are.
+pub fn refresh_surveyed(
+    links: &[u16],
+    parents: &[u16],
+    search: Search,
+    survey: &[u64],
+    asked: &[u64],
+    entries: &mut [u64],
+)
+    requires { let g = netOf (now links) (now parents) search in
+        ⌜ Surveyed g (now survey)
+        × (length (now parents) ≤ entriesIn (now entries)) ⌝ }
+    ensures { λ _.
+        let g = netOf (now (links .entry)) (now (parents .entry)) search in
+        let n = length (now (parents .entry)) in
+        let before = now (entries .entry) in
+        ⌜ now (entries .exit) ≡ rowsTo (freshAt g (now (asked .entry)) before) n ++ pastEntries n before ⌝ }
+{
+    search_asked(links, parents, search, survey, asked, entries);
 }
 
 // Whether a table can be worked out: refusals 1 to 9, then 10 where fewer entries are lent than there are nodes.
@@ -835,6 +591,27 @@ pub fn check_table(links: &[u16], parents: &[u16], search: Search, entries: &[u6
     rows::refuse_if(entries::entries_in(entries) < sizes.nodes, Why::NoRoom, 0)
 }
 
+// The same, and in a lent row the survey of the network, which stands there where 1 to 8 refuse nothing. Before all of these 10,
+// where that row holds fewer records than memory has nodes.
+pub fn survey_table(
+    links: &[u16],
+    parents: &[u16],
+    search: Search,
+    survey: &mut [u64],
+    entries: &[u64],
+) -> Verdict
+    ensures { λ r.
+        let g = netOf (now (links .entry)) (now (parents .entry)) search in
+        ⌜ (r ≡ workVerdict g (now (survey .entry)) (now (entries .entry)))
+        × (now (survey .exit) ≡ soundRow g (now (survey .entry))) ⌝ }
+{
+    let said = sound::survey_network(links, parents, search, survey);
+    let Verdict::Taken = said else {
+        return said;
+    };
+    rows::refuse_if(entries::entries_in(entries) < parents.len(), Why::NoRoom, 0)
+}
+
 // The entries of the nodes asked for afresh, all others unwritten. A node is asked for by a number that is not 0.
 pub fn refresh(
     links: &[u16],
@@ -848,11 +625,12 @@ pub fn refresh(
         ⌜ (r ≡ tableVerdict g (now (entries .entry)))
         × (now (entries .exit) ≡ freshRow g (now (asked .entry)) (now (entries .entry))) ⌝ }
 {
-    let said = check_table(links, parents, search, entries);
+    let mut survey = [0u64; survey::ROW];
+    let said = survey_table(links, parents, search, &mut survey, entries);
     let Verdict::Taken = said else {
         return said;
     };
-    search_asked(links, parents, search, asked, entries);
+    refresh_surveyed(links, parents, search, &survey, asked, entries);
     Verdict::Taken
 }
 
@@ -881,9 +659,9 @@ pub fn check_entry(links: &[u16], parents: &[u16], search: Search, x: usize) -> 
 }
 
 // The entry of node x, by a run that works out no other.
-fn search_one(links: &[u16], parents: &[u16], search: Search, x: usize) -> Entry
+fn search_one(links: &[u16], parents: &[u16], search: Search, survey: &[u64], x: usize) -> Entry
     requires { let g = netOf (now links) (now parents) search in
-        ⌜ (netVerdict g ≡ Taken)
+        ⌜ Surveyed g (now survey)
         × (x < length (now parents)) ⌝ }
     ensures { λ r.
         let g = netOf (now (links .entry)) (now (parents .entry)) search in
@@ -892,7 +670,7 @@ fn search_one(links: &[u16], parents: &[u16], search: Search, x: usize) -> Entry
     let mut asked = [0u64; Memory::NODES];
     asked[x] = 1;
     let mut entries = [0u64; Memory::ENTRY_ROW];
-    search_asked(links, parents, search, &asked, &mut entries);
+    search_asked(links, parents, search, survey, &asked, &mut entries);
     entries::entry_at(&entries, x)
 }
 
@@ -902,9 +680,14 @@ pub fn entry_of(links: &[u16], parents: &[u16], search: Search, x: usize) -> Ent
         let g = netOf (now (links .entry)) (now (parents .entry)) search in
         ⌜ r ≡ entryAnswer g x ⌝ }
 {
-    let said = check_entry(links, parents, search, x);
-    match said {
-        Verdict::Taken => EntryAnswer::Is(search_one(links, parents, search, x)),
+    let mut survey = [0u64; survey::ROW];
+    let said = sound::survey_network(links, parents, search, &mut survey);
+    if let Verdict::Refused(why) = said {
+        return EntryAnswer::Not(why);
+    }
+    let there = rows::refuse_if(parents.len() <= x, Why::NoRoute, x);
+    match there {
+        Verdict::Taken => EntryAnswer::Is(search_one(links, parents, search, &survey, x)),
         Verdict::Refused(why) => EntryAnswer::Not(why),
     }
 }

@@ -5,6 +5,7 @@ use mathlib.Core.List.{List, [], _∷_}
 use Prim.Native.Nat.{ℕ, zero, suc, _+_}
 use lib.Dec.{eqb}
 use lib.ListN.{length}
+use Rattle.rows.specs.Count.{onlyIf}
 use Rattle.rows.specs.Lists.{has, upTo, firstOf, total}
 use Rattle.network.specs.Network.{Net, otherEnd}
 
@@ -52,6 +53,10 @@ dist t u = total (t .rise) (route t u)
 -- Is u in T(x), x and all below it?
 unfoldable pub under : Tree → ℕ → ℕ → Bool
 under t x u = has x (route t u)
+
+-- f(u) for u in T(x), and 0 for every other node.
+unfoldable pub inside : Tree → ℕ → (ℕ → ℕ) → ℕ → ℕ
+inside t x f u = let v = f u in onlyIf (under t x u) v
 
 -- How many hops z is below x.
 unfoldable pub hops : Tree → ℕ → ℕ → ℕ

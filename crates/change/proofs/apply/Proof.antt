@@ -1,6 +1,5 @@
 -- `change::apply` meets its contract. Assumes nothing.
-use native.Mathlib.Omega.{arith}
-use Rattle.change.proofs.Applying.{root-node, apply-sound, asked-room, first-node, second-node, asked-still, apply-is}
+use Rattle.change.proofs.Applying.{apply-sound, asked-room, first-node, second-node, asked-still, apply-room, still-surveyed, apply-is}
 use borrow.Author.Needs.{needs}
 use Rattle.change.proofs.apply.Statement.{statement}
 use Rattle.change.proofs.apply.Tie as tie
@@ -20,8 +19,8 @@ cast-flip-up c = search needs
 flip-up-requires : tie.Need-flip-up-requires
 flip-up-requires c κs =
     let link-at = c .before .before .before .link-at in
-    let pre = c .before .before .before .before .before .before .before .before .before .pre in
-    (apply-sound _ _ _ _ _ (pre), first-node _ _ _ _ _ (pre) _ (link-at .ensures), asked-room _ _ _ _ _ (pre))
+    let pre = c .before .before .before .before .before .before .before .before .before .before .pre in
+    (apply-sound _ _ _ _ _ (pre .0), first-node _ _ _ _ _ (pre .0) _ (link-at .ensures), asked-room _ _ _ _ _ (pre .0))
 
 slice-aggregate-flip-up-2 : tie.Need-slice-aggregate-flip-up-2
 slice-aggregate-flip-up-2 c = search needs
@@ -31,13 +30,12 @@ cast-flip-up-2 c = search needs
 
 flip-up-requires-2 : tie.Need-flip-up-requires-2
 flip-up-requires-2 c κs =
-    let flip-up = c .before .before .before .before .flip-up in
     let link-at = c .before .before .before .before .before .before .before .before .link-at in
-    let pre = c .before .before .before .before .before .before .before .before .before .before .before .before .before .before .pre in (
-      apply-sound _ _ _ _ _ (pre),
-      omega (arith, second-node _ _ _ _ _ (pre) _ (link-at .ensures), root-node _ _ _ _ _ (pre)),
-      asked-still _ _ _ _ _
-          (pre) _ (link-at .ensures) _ (flip-up .ensures),
+    let flip-up = c .before .before .before .before .flip-up in
+    let pre = c .before .before .before .before .before .before .before .before .before .before .before .before .before .before .before .pre in (
+      apply-sound _ _ _ _ _ (pre .0),
+      second-node _ _ _ _ _ (pre .0) _ (link-at .ensures),
+      asked-still _ _ _ _ _ (pre .0) _ (link-at .ensures) _ (flip-up .ensures),
     )
 
 cast-set-link : tie.Need-cast-set-link
@@ -46,11 +44,16 @@ cast-set-link c = search needs
 set-link-requires : tie.Need-set-link-requires
 set-link-requires c κs = search needs
 
-slice-aggregate-refresh : tie.Need-slice-aggregate-refresh
-slice-aggregate-refresh c = search needs
+slice-aggregate-refresh-surveyed : tie.Need-slice-aggregate-refresh-surveyed
+slice-aggregate-refresh-surveyed c = search needs
 
-refresh-requires : tie.Need-refresh-requires
-refresh-requires c κs = search needs
+refresh-surveyed-requires : tie.Need-refresh-surveyed-requires
+refresh-surveyed-requires c κs =
+    let set-link = c .before .before .before .before .before .set-link in
+    let pre =
+    c .before .before .before .before .before .before .before .before .before .before .before .before .before
+    .before .before .before .before .before .before .before .before .before .before .before .before .pre in
+    (still-surveyed _ _ _ _ _ (pre .0) _ (pre .1) _ (set-link .ensures), apply-room _ _ _ _ _ (pre .0))
 
 same-length : tie.Need-same-length
 same-length c = search needs
@@ -60,19 +63,20 @@ same-length-2 c = search needs
 
 returns : tie.Need-returns
 returns c =
-    let set-link = c .before .before .before .before .before .before .before .before .set-link in
-    let flip-up2 = c .before .before .before .before .before .before .before .before .before .before .before .before .flip-up2 in
-    let flip-up =
-    c .before .before .before .before .before .before .before .before .before .before .before .before .before
-    .before .before .before .before .flip-up in
     let link-at =
     c .before .before .before .before .before .before .before .before .before .before .before .before .before
     .before .before .before .before .before .before .before .before .link-at in
+    let flip-up =
+    c .before .before .before .before .before .before .before .before .before .before .before .before .before
+    .before .before .before .before .flip-up in
+    let flip-up2 = c .before .before .before .before .before .before .before .before .before .before .before .before .flip-up2 in
+    let set-link = c .before .before .before .before .before .before .before .before .set-link in
+    let refresh-surveyed = c .before .before .refresh-surveyed in
     let pre =
     c .before .before .before .before .before .before .before .before .before .before .before .before .before
     .before .before .before .before .before .before .before .before .before .before .before .before .before
-    .before .pre in
-    apply-is _ _ _ _ _ (pre) _ (link-at .ensures) _ (flip-up .ensures) _ (flip-up2 .ensures) _ (set-link .ensures) _ (c .before .before .refresh .ensures .1)
+    .before .before .pre in
+    apply-is _ _ _ _ _ (pre .0) _ (link-at .ensures) _ (flip-up .ensures) _ (flip-up2 .ensures) _ (set-link .ensures) _ (refresh-surveyed .ensures)
 
 pub apply-spec : {M : Type 1} → statement M
 apply-spec =
@@ -88,8 +92,8 @@ apply-spec =
     flip-up-requires-2
     cast-set-link
     set-link-requires
-    slice-aggregate-refresh
-    refresh-requires
+    slice-aggregate-refresh-surveyed
+    refresh-surveyed-requires
     same-length
     same-length-2
     returns)

@@ -1,18 +1,20 @@
 -- `table::search_one` meets its contract. Assumes nothing.
+use Rattle.table.proofs.Single.{parents-few, bare-room, one-known}
 use Rattle.network.specs.Network.{netOf}
-use Rattle.table.proofs.Counts.{small}
-use Rattle.table.proofs.Single.{bare-room, one-known}
 use native.Mathlib.Omega.{arith}
 use borrow.Author.Needs.{needs}
 use Rattle.table.proofs.search_one.Statement.{statement}
 use Rattle.table.proofs.search_one.Tie as tie
 
 mul-asked : tie.Need-mul-asked
-mul-asked c = omega (arith, c .before .before .pre .1, small _ _ _ (c .before .before .pre .0) (λ i. omega (arith, c .before .shared-slice-known .given i)))
+mul-asked c =
+    let pre = c .before .before .before .pre in
+    omega (arith, pre .1, parents-few _ _ _ (pre .0))
 
 array-write-asked : tie.Need-array-write-asked
 array-write-asked c =
-    omega (arith, c .before .before .pre .1, small _ _ _ (c .before .before .pre .0) (λ i. omega (arith, c .before .shared-slice-known .given i)))
+    let pre = c .before .before .before .pre in
+    omega (arith, pre .1, parents-few _ _ _ (pre .0))
 
 slice-aggregate-search-asked : tie.Need-slice-aggregate-search-asked
 slice-aggregate-search-asked c = search needs
@@ -22,9 +24,8 @@ slice-aggregate-search-asked-2 c = search needs
 
 search-asked-requires : tie.Need-search-asked-requires
 search-asked-requires c κs =
-    let shared-slice-known = c .before .before .before .shared-slice-known in
-    let pre = c .before .before .before .before .pre in
-    (pre .0, bare-room _ (small _ _ _ (pre .0) (λ i. omega (arith, shared-slice-known .given i))))
+    let pre = c .before .before .before .before .before .pre in
+    (pre .0, bare-room _ (parents-few _ _ _ (pre .0)))
 
 slice-aggregate-entry-at : tie.Need-slice-aggregate-entry-at
 slice-aggregate-entry-at c = search needs
@@ -36,8 +37,8 @@ returns : tie.Need-returns
 unfolding netOf
 returns c =
     let search-asked = c .before .before .before .search-asked in
-    let pre = c .before .before .before .before .before .before .before .before .pre in
-    one-known _ _ (pre .1) (pre .0) _ (search-asked .ensures) _ (c .entry-at .ensures)
+    let pre = c .before .before .before .before .before .before .before .before .before .pre in
+    one-known _ _ (pre .1) (pre .0 .taken) _ (search-asked .ensures) _ (c .entry-at .ensures)
 
 pub search-one-spec : {M : Type 1} → statement M
 search-one-spec =
