@@ -159,11 +159,19 @@ HOT void keep(uint64_t *link, uint64_t *cost, int had, uint64_t e, uint64_t pric
     }
 }
 
+// The rank of node x, were it asked for: how many nodes are below it, and its number.
+enum { STEP = 65536 };
+
+HOT uint32_t own_rank(const struct known *survey, size_t x)
+{
+    return (uint32_t)(survey[x].count * STEP + x + 1);
+}
+
 // Offers link e to the node where the climb is, where that node is asked for.
-HOT void offer_at(const struct network *net, const struct known *survey, const uint16_t *anchors, uint64_t *entries,
+HOT void offer_at(const struct network *net, const struct known *survey, const uint32_t *ranks, uint64_t *entries,
     struct side s, size_t e, uint64_t k)
 {
-    if (anchors[s.node] != s.node + 1)
+    if (ranks[s.node] % STEP != s.node + 1)
         return;
     const struct known *x = survey + s.node;
     uint64_t sum = x->base + x->count * k - s.turn, incr = k - 2 * x->near, max = s.reach + (k - s.near);
@@ -182,45 +190,49 @@ HOT void offer_at(const struct network *net, const struct known *survey, const u
     keep(&entry[3], &entry[6], had, e, max);
 }
 
-// Offers link e to every node asked for that it crosses, by a climb from each end up to where the routes meet.
-static void offer_link(const struct network *net, const struct known *survey, const uint16_t *anchors, uint64_t *entries, size_t e)
+// Offers link e to every node asked for that it crosses, by a climb from each end up to where both have the same rank. The one
+// whose anchor has fewer nodes below it goes on.
+static void offer_link(const struct network *net, const struct known *survey, const uint32_t *ranks, uint64_t *entries, size_t e)
 {
     struct link l = net->links[e];
-    if (l.mark != 1 || net->parents[l.first] == e || net->parents[l.second] == e || anchors[l.first] == anchors[l.second])
+    if (l.mark != 1 || net->parents[l.first] == e || net->parents[l.second] == e || ranks[l.first] == ranks[l.second])
         return;
     uint64_t k = survey[l.first].near + l.length + survey[l.second].near;
     struct side a = begin_side(survey, l.first), b = begin_side(survey, l.second);
-    while (a.node != b.node) {
-        if (survey[b.node].count < survey[a.node].count) {
-            offer_at(net, survey, anchors, entries, b, e, k);
+    while (ranks[a.node] != ranks[b.node]) {
+        if (ranks[b.node] / STEP < ranks[a.node] / STEP) {
+            offer_at(net, survey, ranks, entries, b, e, k);
             b = step_side(survey, b);
         } else {
-            offer_at(net, survey, anchors, entries, a, e, k);
+            offer_at(net, survey, ranks, entries, a, e, k);
             a = step_side(survey, a);
         }
     }
 }
 
-// The entries of the nodes that are their own anchors, afresh.
-static void refresh(const struct network *net, const struct known *survey, const uint16_t *anchors, uint64_t *entries)
+// The entries of the nodes that are asked for, afresh.
+static void refresh(const struct network *net, const struct known *survey, const uint32_t *ranks, uint64_t *entries)
 {
     for (size_t x = 0; x < net->n; x++)
-        if (anchors[x] == x + 1)
-            memcpy(entries + x * ENTRY, (uint64_t[ENTRY]){x == net->root ? ROOT : BRIDGE, MARK, MARK, MARK},
-                ENTRY * sizeof *entries);
+        if (ranks[x] % STEP == x + 1) {
+            uint64_t *entry = entries + x * ENTRY;
+            entry[0] = x == net->root ? ROOT : BRIDGE;
+            entry[1] = entry[2] = entry[3] = MARK;
+            entry[4] = entry[5] = entry[6] = 0;
+        }
     for (size_t e = 0; e < net->m; e++)
-        offer_link(net, survey, anchors, entries, e);
+        offer_link(net, survey, ranks, entries, e);
 }
 
 static int table(const struct network *net, uint64_t *entries)
 {
     struct known survey[NODES];
-    uint16_t anchors[NODES];
+    uint32_t ranks[NODES];
     if (!survey_network(net, survey))
         return 0;
     for (size_t x = 0; x < net->n; x++)
-        anchors[x] = (uint16_t)(x + 1);
-    refresh(net, survey, anchors, entries);
+        ranks[x] = own_rank(survey, x);
+    refresh(net, survey, ranks, entries);
     return 1;
 }
 
@@ -232,24 +244,24 @@ static void flip_up(const struct known *survey, size_t root, uint8_t *asked, siz
     asked[u] ^= 1;
 }
 
-// The anchor of every node: one more than the first node of its route that is asked for, or MARK.
-static void fill_anchors(const struct known *survey, size_t n, size_t root, const uint8_t *asked, uint16_t *anchors)
+// The rank of every node: that of the first node of its route that is asked for, or the highest.
+static void fill_ranks(const struct known *survey, size_t n, size_t root, const uint8_t *asked, uint32_t *ranks)
 {
     for (size_t x = 0; x < n; x++)
-        anchors[x] = asked[x] ? (uint16_t)(x + 1) : x == root ? MARK : 0;
+        ranks[x] = asked[x] ? own_rank(survey, x) : x == root ? (uint32_t)MARK * STEP : 0;
     for (size_t u = 0; u < n; u++) {
         size_t c = u;
-        while (anchors[c] == 0)
+        while (ranks[c] == 0)
             c = survey[c].up;
-        for (size_t v = u; anchors[v] == 0; v = survey[v].up)
-            anchors[v] = anchors[c];
+        for (size_t v = u; ranks[v] == 0; v = survey[v].up)
+            ranks[v] = ranks[c];
     }
 }
 
 static int change(struct network *net, uint64_t *entries, size_t e, unsigned mark, unsigned length)
 {
     struct known survey[NODES];
-    uint16_t anchors[NODES];
+    uint32_t ranks[NODES];
     uint8_t asked[NODES];
     if (!survey_network(net, survey) || net->m <= e || mark > 1)
         return 0;
@@ -262,10 +274,10 @@ static int change(struct network *net, uint64_t *entries, size_t e, unsigned mar
     memset(asked, 0, net->n);
     flip_up(survey, net->root, asked, l->first);
     flip_up(survey, net->root, asked, l->second);
-    fill_anchors(survey, net->n, net->root, asked, anchors);
+    fill_ranks(survey, net->n, net->root, asked, ranks);
     l->length = (uint16_t)length;
     l->mark = (uint16_t)mark;
-    refresh(net, survey, anchors, entries);
+    refresh(net, survey, ranks, entries);
     return 1;
 }
 

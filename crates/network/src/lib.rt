@@ -241,13 +241,14 @@ fn first_bad_ends(links: &[u16], n: usize) -> Found
     ensures { λ r.
         ⌜ r ≡ firstTo (λ e. badEnds n (linkIn (now (links .entry)) e)) (linksIn (now (links .entry))) ⌝ }
 {
-    let mut found = Found::Nothing;
     let mut e = 0;
     while e < links.len() / Memory::LINK {
-        found = rows::or_here(found, bad_ends(n, link_at(links, e)), e);
+        if bad_ends(n, link_at(links, e)) {
+            return Found::At(e);
+        }
         e += 1;
     }
-    found
+    Found::Nothing
 }
 
 // The lowest link with a bad service mark.
@@ -255,14 +256,15 @@ fn first_bad_mark(links: &[u16]) -> Found
     ensures { λ r.
         ⌜ r ≡ firstTo (λ e. badMark (linkIn (now (links .entry)) e .mark)) (linksIn (now (links .entry))) ⌝ }
 {
-    let mut found = Found::Nothing;
     let mut e = 0;
     while e < links.len() / Memory::LINK {
         let l = link_at(links, e);
-        found = rows::or_here(found, bad_mark(l.mark), e);
+        if bad_mark(l.mark) {
+            return Found::At(e);
+        }
         e += 1;
     }
-    found
+    Found::Nothing
 }
 
 // Refusal 5, of a row of links among n nodes.

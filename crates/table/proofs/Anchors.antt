@@ -7,13 +7,13 @@ use Prim.Native.Nat.{ℕ, suc, _<_, _≤_}
 use native.Mathlib.Omega.{arith}
 use lib.Dec.{eqb}
 use borrow.Author.Tests.{eqb-true}
-use Rattle.edition.specs.Limits.{nodeLimit, noNode}
+use Rattle.edition.specs.declared.Found.{Found}
+use Rattle.edition.specs.declared.Found.the-variants.{Nothing, At}
 use Rattle.rows.specs.Lists.{has}
 use Rattle.rows.proofs.Tests.{clash, either, or-right, not-so}
 use Rattle.rows.proofs.Listed.{has-head}
 use Rattle.tree.specs.Tree.{Tree, route, under}
 use Rattle.tree.proofs.Ways.{Way, top, hop, Home, way, way-only, way-head, home-step, route-root, route-step, under-trans}
-use Rattle.tree.proofs.Bounded.{under-below}
 use Rattle.table.specs.Table.{isAsked}
 use Rattle.table.specs.Work.{anchorIn, anchor}
 
@@ -21,8 +21,11 @@ has-more : (u a : ℕ) (r : List ℕ) → has a r ≡ true → has a (u ∷ r) �
 unfolding has
 has-more u a r m = or-right (eqb u a) (has a r) m
 
+pub some : {a : ℕ} → Nothing ≡ At a → ⊥
+some q = let no : _≡_ {A = ℕ} 0 1 = cc in omega arith
+
 module _ (asked : List ℕ) where
-  anchor-here : (u : ℕ) (r : List ℕ) → isAsked asked u ≡ true → anchorIn asked (u ∷ r) ≡ suc u
+  anchor-here : (u : ℕ) (r : List ℕ) → isAsked asked u ≡ true → anchorIn asked (u ∷ r) ≡ At u
   unfolding anchorIn
   anchor-here u r e = rw e
 
@@ -30,38 +33,24 @@ module _ (asked : List ℕ) where
   unfolding anchorIn
   anchor-past u r e = rw e
 
-  -- an anchor is not 0
-  some-anchor : (r : List ℕ) → anchorIn asked r ≡ 0 → ⊥
-  unfolding anchorIn
-  some-anchor [] q = omega arith
-  some-anchor (u ∷ r) q = go (some-anchor r) (isAsked asked u) refl
-    where
-      go : (anchorIn asked r ≡ 0 → ⊥) → (b : Bool) → isAsked asked u ≡ b → ⊥
-      go ih true e = omega (arith, sym (anchor-here u r e) ∙ q)
-      go ih false e = ih (sym (anchor-past u r e) ∙ q)
-
   -- an anchor that names a node names one of the list that is asked for
-  anchor-found : (a : ℕ) → (suc a ≡ noNode → ⊥) → (r : List ℕ) → anchorIn asked r ≡ suc a → (has a r ≡ true) × (isAsked asked a ≡ true)
+  pub anchor-found : (a : ℕ) (r : List ℕ) → anchorIn asked r ≡ At a → (has a r ≡ true) × (isAsked asked a ≡ true)
   unfolding anchorIn
-  anchor-found a n [] q = absurd (n (sym q))
-  anchor-found a n (u ∷ r) q = go (anchor-found a n r) (isAsked asked u) refl
+  anchor-found a [] q = absurd (some q)
+  anchor-found a (u ∷ r) q = go (anchor-found a r) (isAsked asked u) refl
     where
       go :
-          (anchorIn asked r ≡ suc a → (has a r ≡ true) × (isAsked asked a ≡ true))
+          (anchorIn asked r ≡ At a → (has a r ≡ true) × (isAsked asked a ≡ true))
           → (b : Bool) → isAsked asked u ≡ b → (has a (u ∷ r) ≡ true) × (isAsked asked a ≡ true)
       go ih true e =
-          let same : u ≡ a = omega (arith, sym (anchor-here u r e) ∙ q) in
+          let same : u ≡ a = let z = sym (anchor-here u r e) ∙ q in cc in
           subst (λ (v : ℕ). (has v (u ∷ r) ≡ true) × (isAsked asked v ≡ true)) same (has-head u r, e)
       go ih false e = let z = ih (sym (anchor-past u r e) ∙ q) in (has-more u a r (z .0), z .1)
 
 module _ (t : Tree) (asked : List ℕ) where
-  pub anchor-some : (u : ℕ) → anchor t asked u ≡ 0 → ⊥
-  unfolding anchor
-  anchor-some u q = some-anchor asked (route t u) q
-
   module _ (x : ℕ) (h : Home t x) where
     -- its own where it is asked for, else that of its parent; none at a root that is not asked for
-    pub anchor-own : isAsked asked x ≡ true → anchor t asked x ≡ suc x
+    pub anchor-own : isAsked asked x ≡ true → anchor t asked x ≡ At x
     unfolding anchor
     anchor-own e = let z = way-head t (way t x h) in ap (anchorIn asked) (z .1) ∙ anchor-here asked x (z .0) e
 
@@ -69,19 +58,19 @@ module _ (t : Tree) (asked : List ℕ) where
     unfolding anchor
     anchor-up e r = ap (anchorIn asked) (route-step t x h r) ∙ anchor-past asked x _ e
 
-    pub anchor-top : isAsked asked x ≡ false → eqb x (t .root) ≡ true → anchor t asked x ≡ noNode
+    pub anchor-top : isAsked asked x ≡ false → eqb x (t .root) ≡ true → anchor t asked x ≡ Nothing
     unfolding anchor anchorIn
     anchor-top e r = ap (anchorIn asked) (route-root t x h r) ∙ anchor-past asked x [] e
 
-    pub anchor-other : x < nodeLimit → isAsked asked x ≡ false → anchor t asked x ≡ suc x → ⊥
+    pub anchor-other : isAsked asked x ≡ false → anchor t asked x ≡ At x → ⊥
     unfolding anchor
-    anchor-other l e q = clash (anchor-found asked x (λ z. omega arith) (route t x) q .1) e
+    anchor-other e q = clash (anchor-found asked x (route t x) q .1) e
 
   -- a node asked for on a way is above the anchor
-  way-anchor :
+  pub way-anchor :
       {u : ℕ} {r : List ℕ}
       → Way t u r → Home t u → (y : ℕ) → has y r ≡ true → isAsked asked y ≡ true
-      → (a : ℕ) × (anchorIn asked r ≡ suc a) × (has a r ≡ true) × (under t y a ≡ true)
+      → (a : ℕ) × (anchorIn asked r ≡ At a) × (has a r ≡ true) × (under t y a ≡ true)
   unfolding has under
   way-anchor (top {u} e) h y m o =
       either (eqb u y) false m
@@ -96,16 +85,16 @@ module _ (t : Tree) (asked : List ℕ) where
     where
       go :
           (has y r ≡ true
-          → isAsked asked y ≡ true → (a : ℕ) × (anchorIn asked r ≡ suc a) × (has a r ≡ true) × (has y (route t a) ≡ true))
+          → isAsked asked y ≡ true → (a : ℕ) × (anchorIn asked r ≡ At a) × (has a r ≡ true) × (has y (route t a) ≡ true))
           → (b : Bool) → isAsked asked u ≡ b
-          → (a : ℕ) × (anchorIn asked (u ∷ r) ≡ suc a) × (has a (u ∷ r) ≡ true) × (has y (route t a) ≡ true)
+          → (a : ℕ) × (anchorIn asked (u ∷ r) ≡ At a) × (has a (u ∷ r) ≡ true) × (has y (route t a) ≡ true)
       go ih true p = (u, anchor-here asked u r p, has-head u r, subst (λ (s : List ℕ). has y s ≡ true) (way-only t (hop e w) (way t u h)) m)
       go ih false p =
           either (eqb u y) (has y r) m
           (λ q. clash o (subst (λ (v : ℕ). isAsked asked v ≡ false) (eqb-true u y q) p))
           (λ q c. let z = ih c o in (z .0, anchor-past asked u r p ∙ z .1, has-more u (z .0) r (z .2), z .3))
 
-  module _ (all : (u : ℕ) → u < t .size → Home t u) (closed : (u : ℕ) → u < t .size → t .up u < t .size) (few : t .size ≤ nodeLimit) where
+  module _ (all : (u : ℕ) → u < t .size → Home t u) where
     same-over :
         (p q : ℕ)
         → p < t .size → q < t .size → anchor t asked p ≡ anchor t asked q → (y : ℕ) → isAsked asked y ≡ true → under t y p ≡ true
@@ -113,8 +102,7 @@ module _ (t : Tree) (asked : List ℕ) where
     unfolding anchor under
     same-over p q lp lq s y o m =
         let z = way-anchor (way t p (all p lp)) (all p lp) y m o in
-        let low : z .0 < t .size = under-below t closed p (z .0) (all p lp) lp (z .2) in
-        let on = anchor-found asked (z .0) (λ e. omega arith) (route t q) (sym s ∙ z .1) in
+        let on = anchor-found asked (z .0) (route t q) (sym s ∙ z .1) in
         under-trans t (z .0) y q (all q lq) (on .0) (z .3)
 
     -- of two nodes with one anchor

@@ -1,8 +1,8 @@
--- The anchors of all nodes, from the first ones: a climb to the first node that has one, and a climb that writes it. Assumes nothing.
+-- The ranks of all nodes, from the first ones: a climb to the first node that has one, and a climb that writes it. Assumes nothing.
 use mathlib.Core.Path.{_≡_, refl, sym, subst, ap, _∙_}
 use mathlib.Core.Bool.{Bool, true, false}
 use mathlib.Core.List.{List}
-use Prim.Native.Nat.{ℕ, suc, _+_, _-_, _^_, _<_, _≤_}
+use Prim.Native.Nat.{ℕ, suc, _+_, _*_, _-_, _^_, _<_, _≤_}
 use native.Mathlib.Numerals.{add-one}
 use native.Mathlib.Omega.{arith}
 use lib.Dec.{eqb}
@@ -22,32 +22,41 @@ use Rattle.survey.specs.Row.{nodesIn, knownAt}
 use Rattle.sound.specs.Surveyed.{Surveyed}
 use Rattle.sound.proofs.Holding.{nodes-few, root-in}
 use Rattle.table.specs.Table.{isAsked}
-use Rattle.table.specs.Work.{anchor, Anchored, firstAnchor, Partly, Upward, Joined, Anchoring}
+use Rattle.table.specs.Work.{rankStep, rankOf, rank, Ranked, Weighed, firstRank, Partly, Upward, Joined, Ranking}
 use Rattle.table.proofs.Surveys.{fine, size-is, in-tree, homes, closed, small, there, up-is, count-is, count-few}
 use Rattle.table.proofs.TwoSides.{count-rises}
-use Rattle.table.proofs.Anchors.{anchor-some, anchor-own, anchor-up, anchor-top}
+use Rattle.table.proofs.Ranks.{rank-of-some, rank-some, rank-own, rank-up, rank-top}
 
--- the first anchors
-module _ (asked : List ℕ) (root x : ℕ) where
-  pub first-asked : isAsked asked x ≡ true → firstAnchor asked root x ≡ suc x
-  unfolding firstAnchor
+-- the first ranks
+module _ (survey asked : List ℕ) (root x : ℕ) where
+  pub first-asked : isAsked asked x ≡ true → firstRank survey asked root x ≡ rankOf (knownAt survey x .count) x
+  unfolding firstRank
   first-asked e = rw e
 
-  pub first-root : isAsked asked x ≡ false → x ≡ root → firstAnchor asked root x ≡ noNode
-  unfolding firstAnchor
+  pub first-root : isAsked asked x ≡ false → x ≡ root → firstRank survey asked root x ≡ noNode * rankStep
+  unfolding firstRank
   first-root e q = rw (e, eq-eqb x root q)
 
-  pub first-none : isAsked asked x ≡ false → (x ≡ root → ⊥) → firstAnchor asked root x ≡ 0
-  unfolding firstAnchor
+  pub first-none : isAsked asked x ≡ false → (x ≡ root → ⊥) → firstRank survey asked root x ≡ 0
+  unfolding firstRank
   first-none e n = rw (e, ne-eqb x root n)
 
--- a row of zeros has room for the anchors of any sound network
-pub anchoring :
+-- a node of a surveyed network can be ranked
+pub weighed : {g : Net} {survey : List ℕ} → Surveyed g survey → (x : ℕ) → x < g .nodes → Weighed survey x
+weighed s x l =
+    record {
+      there = there s x l;
+      low = omega (arith, small s, size-is s, l);
+      few = omega (arith, count-is s x l _ refl, count-few s x);
+    }
+
+-- a row of zeros has room for the ranks of any sound network
+pub ranking :
     (links parents : List ℕ) (search : Search) {survey : List ℕ}
     → Surveyed (netOf links parents search) survey
-    → Anchoring (netOf links parents search) survey (search .root) (length parents) (replicate nodeLimit 0)
+    → Ranking (netOf links parents search) survey (search .root) (length parents) (replicate nodeLimit 0)
 unfolding netOf
-anchoring links parents search s =
+ranking links parents search s =
     record {
       surveyed = s;
       root-is = refl;
@@ -55,17 +64,14 @@ anchoring links parents search s =
       room = omega (arith, length-replicate {A = ℕ} nodeLimit 0, nodes-few (netOf links parents search) (fine s));
     }
 
-module _ {g : Net} {survey : List ℕ} {root n : ℕ} {row : List ℕ} (h : Anchoring g survey root n row) (asked : List ℕ) where
-  pub few-anchors : n ≤ nodeLimit
-  few-anchors = omega (arith, small (h .surveyed), size-is (h .surveyed), h .nodes-is)
+module _ {g : Net} {survey : List ℕ} {root n : ℕ} {row : List ℕ} (h : Ranking g survey root n row) (asked : List ℕ) where
+  pub few-ranks : (x : ℕ) → x < n → Weighed survey x
+  few-ranks x l = weighed (h .surveyed) x (omega (arith, h .nodes-is, l))
 
-  pub anchors-room : n ≤ length row
-  anchors-room = h .room
-
-  module _ {row′ : List ℕ} (q : row′ ≡ rowWith (firstAnchor asked root) n row) where
-    first-at : (x : ℕ) → x < g .nodes → getD row′ x 0 ≡ firstAnchor asked root x
+  module _ {row′ : List ℕ} (q : row′ ≡ rowWith (firstRank survey asked root) n row) where
+    first-at : (x : ℕ) → x < g .nodes → getD row′ x 0 ≡ firstRank survey asked root x
     first-at x l =
-        ap (λ (r : List ℕ). getD r x 0) q ∙ filled-at (firstAnchor asked root) n row x (omega (arith, h .nodes-is))
+        ap (λ (r : List ℕ). getD r x 0) q ∙ filled-at (firstRank survey asked root) n row x (omega (arith, h .nodes-is))
 
     root-at : treeOf g .root ≡ root
     unfolding treeOf
@@ -74,32 +80,35 @@ module _ {g : Net} {survey : List ℕ} {root n : ℕ} {row : List ℕ} (h : Anch
     known-at :
         (x : ℕ)
         → x < g .nodes → (a : Bool) → isAsked asked x ≡ a → (r : Bool) → eqb x root ≡ r
-        → (firstAnchor asked root x ≡ 0 → ⊥) → firstAnchor asked root x ≡ anchor (treeOf g) asked x
-    known-at x l true e r z m = first-asked asked root x e ∙ sym (anchor-own (treeOf g) asked x (homes (h .surveyed) x (in-tree (h .surveyed) x l)) e)
+        → (firstRank survey asked root x ≡ 0 → ⊥) → firstRank survey asked root x ≡ rank (treeOf g) asked x
+    known-at x l true e r z m =
+        first-asked survey asked root x e
+        ∙ ap (λ (c : ℕ). rankOf c x) (count-is (h .surveyed) x l _ refl)
+        ∙ sym (rank-own (treeOf g) asked x (homes (h .surveyed) x (in-tree (h .surveyed) x l)) e)
     known-at x l false e true z m =
-        first-root asked root x e (eqb-true x root z) ∙
-        sym (anchor-top (treeOf g) asked x (homes (h .surveyed) x (in-tree (h .surveyed) x l)) e (rw root-at z))
-    known-at x l false e false z m = absurd (m (first-none asked root x e (eqb-false x root z)))
+        first-root survey asked root x e (eqb-true x root z) ∙
+        sym (rank-top (treeOf g) asked x (homes (h .surveyed) x (in-tree (h .surveyed) x l)) e (rw root-at z))
+    known-at x l false e false z m = absurd (m (first-none survey asked root x e (eqb-false x root z)))
 
-    free-at : (x : ℕ) (a : Bool) → isAsked asked x ≡ a → firstAnchor asked root x ≡ 0 → isAsked asked x ≡ false
-    free-at x true e z = absurd (omega (arith, first-asked asked root x e))
+    free-at : (x : ℕ) (a : Bool) → isAsked asked x ≡ a → firstRank survey asked root x ≡ 0 → isAsked asked x ≡ false
+    free-at x true e z = absurd (rank-of-some _ _ (sym (first-asked survey asked root x e) ∙ z))
     free-at x false e z = e
 
-    top-at : (a : Bool) → isAsked asked root ≡ a → firstAnchor asked root root ≡ 0 → ⊥
-    top-at true e z = omega (arith, first-asked asked root root e)
-    top-at false e z = omega (arith, first-root asked root root e refl)
+    top-at : (a : Bool) → isAsked asked root ≡ a → firstRank survey asked root root ≡ 0 → ⊥
+    top-at true e z = rank-of-some _ _ (sym (first-asked survey asked root root e) ∙ z)
+    top-at false e z = omega (arith, first-root survey asked root root e refl)
 
     pub partly-start : Partly g asked survey row′
     partly-start =
         record {
           surveyed = h .surveyed;
-          room = omega (arith, ap length q ∙ fill-length (firstAnchor asked root) row n (h .room), h .room, h .nodes-is);
+          room = omega (arith, ap length q ∙ fill-length (firstRank survey asked root) row n (h .room), h .room, h .nodes-is);
           known =
               λ x l m. first-at x l ∙ known-at x l (isAsked asked x) refl (eqb x root) refl (λ z. m (first-at x l ∙ z));
           free = λ x l z. free-at x (isAsked asked x) refl (sym (first-at x l) ∙ z);
           top =
               λ z. top-at (isAsked asked root) refl
-              (subst (λ (v : ℕ). firstAnchor asked root v ≡ 0) (h .root-is)
+              (subst (λ (v : ℕ). firstRank survey asked root v ≡ 0) (h .root-is)
               (sym (first-at (g .search .root) (root-in g (fine (h .surveyed)))) ∙ z));
         }
 
@@ -107,7 +116,7 @@ module _ {g : Net} {survey : List ℕ} {root n : ℕ} {row : List ℕ} (h : Anch
 abbrev pub room-up : List ℕ → ℕ → ℕ
 room-up survey c = nodeLimit - knownAt survey c .count
 
--- one step of a climb, from a node that has no anchor yet
+-- one step of a climb, from a node that has no rank yet
 module _ {g : Net} {asked survey row : List ℕ} (p : Partly g asked survey row) {c : ℕ} (l : c < g .nodes) where
   pub here-low : c < length row
   here-low = omega (arith, p .room)
@@ -141,8 +150,8 @@ module _ {g : Net} {asked survey row : List ℕ} (p : Partly g asked survey row)
     pub up-fits : k .up < 2 ^ 64
     up-fits = omega (arith, up-low, small (p .surveyed), size-is (p .surveyed))
 
-    pub same-anchor : anchor (treeOf g) asked (k .up) ≡ anchor (treeOf g) asked c
-    same-anchor = ap (anchor (treeOf g) asked) next ∙ sym (anchor-up (treeOf g) asked c (homes (p .surveyed) c c-in) (p .free c l z) off)
+    pub same-rank : rank (treeOf g) asked (k .up) ≡ rank (treeOf g) asked c
+    same-rank = ap (rank (treeOf g) asked) next ∙ sym (rank-up (treeOf g) asked c (homes (p .surveyed) c c-in) (p .free c l z) off)
 
     rises : count (treeOf g) c < count (treeOf g) (k .up)
     rises = rw next (count-rises (treeOf g) (homes (p .surveyed)) c c-in up-in off)
@@ -160,7 +169,7 @@ module _ {g : Net} {asked survey row : List ℕ} (p : Partly g asked survey row)
 -- the climb that looks
 pub record Looking (g : Net) (asked : List ℕ) (u c : ℕ) : Type 0 where
   pub low : c < g .nodes
-  pub same : anchor (treeOf g) asked c ≡ anchor (treeOf g) asked u
+  pub same : rank (treeOf g) asked c ≡ rank (treeOf g) asked u
 
 module _ {g : Net} {asked survey row : List ℕ} {u : ℕ} (h : Upward g asked survey row u) where
   pub looking-start : Looking g asked u u
@@ -168,9 +177,9 @@ module _ {g : Net} {asked survey row : List ℕ} {u : ℕ} (h : Upward g asked s
 
   module _ {c : ℕ} (i : Looking g asked u c) where
     pub looking-more : getD row c 0 ≡ 0 → {k : Known} → k ≡ knownAt survey c → Looking g asked u (k .up)
-    looking-more z q = record { low = up-low (h .partly) (i .low) z q; same = same-anchor (h .partly) (i .low) z q ∙ i .same }
+    looking-more z q = record { low = up-low (h .partly) (i .low) z q; same = same-rank (h .partly) (i .low) z q ∙ i .same }
 
-    pub looking-end : (getD row c 0 ≡ 0 → ⊥) → getD row c 0 ≡ anchor (treeOf g) asked u
+    pub looking-end : (getD row c 0 ≡ 0 → ⊥) → getD row c 0 ≡ rank (treeOf g) asked u
     looking-end n = h .partly .known c (i .low) n ∙ i .same
 
 -- the climb that writes
@@ -178,7 +187,7 @@ pub record Writing (g : Net) (asked survey : List ℕ) (u : ℕ) (before : List 
   pub partly : Partly g asked survey row
   pub size : length row ≡ length before
   pub low : c < g .nodes
-  pub same : anchor (treeOf g) asked c ≡ anchor (treeOf g) asked u
+  pub same : rank (treeOf g) asked c ≡ rank (treeOf g) asked u
   begun : getD row u 0 ≡ 0 → c ≡ u
   still : (v : ℕ) → (getD before v 0 ≡ 0 → ⊥) → getD row v 0 ≡ 0 → ⊥
 
@@ -193,13 +202,13 @@ written row c a l P p q v = go (eqb v c) refl
     go true e = rw (eqb-true v c e, getD-set-same row c a 0 l) p
     go false e = rw (getD-set-other row c v a 0 (λ z. eqb-false v c e z)) (q v)
 
-module _ {g : Net} {asked survey before : List ℕ} {u a : ℕ} (h : Upward g asked survey before u) (aq : a ≡ anchor (treeOf g) asked u) where
+module _ {g : Net} {asked survey before : List ℕ} {u a : ℕ} (h : Upward g asked survey before u) (aq : a ≡ rank (treeOf g) asked u) where
   pub writing-start : Writing g asked survey u before u before
   writing-start =
       record { partly = h .partly; size = refl; low = h .low; same = refl; begun = λ z. refl; still = λ v n z. n z }
 
   some-a : a ≡ 0 → ⊥
-  some-a z = anchor-some (treeOf g) asked u (sym aq ∙ z)
+  some-a z = rank-some (treeOf g) asked u (sym aq ∙ z)
 
   module _ {c : ℕ} {row : List ℕ} (i : Writing g asked survey u before c row) where
     pub writing-more :
@@ -213,7 +222,7 @@ module _ {g : Net} {asked survey before : List ℕ} {u a : ℕ} (h : Upward g as
                 surveyed = i .partly .surveyed;
                 room = omega (arith, length-set row c a, i .partly .room);
                 known =
-                    written row c a room (λ v w. v < g .nodes → (w ≡ 0 → ⊥) → w ≡ anchor (treeOf g) asked v)
+                    written row c a room (λ v w. v < g .nodes → (w ≡ 0 → ⊥) → w ≡ rank (treeOf g) asked v)
                     (λ l n. aq ∙ sym (i .same)) (i .partly .known);
                 free = written row c a room (λ v w. v < g .nodes → w ≡ 0 → isAsked asked v ≡ false) (λ l e. absurd (some-a e)) (i .partly .free);
                 top =
@@ -222,7 +231,7 @@ module _ {g : Net} {asked survey before : List ℕ} {u a : ℕ} (h : Upward g as
               };
           size = length-set row c a ∙ i .size;
           low = up-low (i .partly) (i .low) z q;
-          same = same-anchor (i .partly) (i .low) z q ∙ i .same;
+          same = same-rank (i .partly) (i .low) z q ∙ i .same;
           begun = λ y. absurd (done y);
           still = written row c a room (λ v w. (getD before v 0 ≡ 0 → ⊥) → w ≡ 0 → ⊥) (λ n. some-a) (i .still);
         }
@@ -269,7 +278,7 @@ module _ {g : Net} {asked survey before : List ℕ} {n : ℕ} (p : Partly g aske
           done = lastly (λ v. getD row′ v 0 ≡ 0 → ⊥) u (λ v l. j .still v (i .done v l)) (j .has);
         })
 
-    pub turning-end : n ≤ u → Anchored (treeOf g) asked row
+    pub turning-end : n ≤ u → Ranked (treeOf g) asked row
     turning-end l =
         record {
           room = omega (arith, i .partly .room, size-is (i .partly .surveyed));

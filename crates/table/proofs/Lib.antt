@@ -5,6 +5,7 @@ pub mod Sides
 pub mod Pricing
 pub mod Anchors
 pub mod TwoSides
+pub mod Ranks
 pub mod Joining
 pub mod Offering
 pub mod Moving

@@ -2,21 +2,20 @@
 use mathlib.Core.Path.{_≡_, refl, sym, subst, ap, ap₂, _∙_}
 use mathlib.Core.Bool.{Bool, true, false, cond, not, _&&_, _||_}
 use mathlib.Core.List.{List}
-use Prim.Native.Nat.{ℕ, suc, _+_, _-_, _<_, _≤_}
+use Prim.Native.Nat.{ℕ, suc, _+_, _-_, _/_, _<_, _≤_}
 use native.Mathlib.Omega.{arith}
 use lib.Dec.{eqb}
-use lib.ListN.{length}
+use lib.ListN.{length, getD}
 use borrow.Author.Tests.{eqb-true, ne-eqb}
 use Rattle.edition.specs.Limits.{nodeLimit}
 use Rattle.edition.specs.declared.Search.{Search}
 use Rattle.rows.specs.Lists.{has, upTo, differ}
-use Rattle.rows.proofs.Tests.{clash, either, not-so, and-none, or-swap}
+use Rattle.rows.proofs.Tests.{clash, either, not-so, and-none, or-swap, or-false}
 use Rattle.rows.proofs.Listed.{upTo-out}
 use Rattle.network.specs.declared.Link.{Link}
 use Rattle.network.specs.Network.{Net, inService, touches}
-use Rattle.tree.specs.Tree.{Tree, treeOf, route, under, meet, onPath}
+use Rattle.tree.specs.Tree.{Tree, treeOf, route, under}
 use Rattle.tree.proofs.Ways.{Home, under-cut, under-root}
-use Rattle.tree.proofs.Meeting.{on-path}
 use Rattle.tree.proofs.Bounded.{under-below}
 use Rattle.survey.specs.Known.{count}
 use Rattle.survey.specs.Row.{nodesIn, knownAt}
@@ -27,11 +26,12 @@ use Rattle.swap.specs.Swap.{innerEnd, crosses}
 use Rattle.table.proofs.Prefixes.{entry-unmoved, entry-top}
 use Rattle.table.specs.declared.Side.{Side}
 use Rattle.table.specs.Table.{isAsked}
-use Rattle.table.specs.Work.{Entries, Carries, Crossing, Stepping, Stepped, Offering, want, OfferedAt, Spare, Climbing, Linked}
+use Rattle.table.specs.Work.{Entries, Carries, Crossing, Stepping, Stepped, Offering, want, OfferedAt, Spare, Climbing, Linked, rankStep, rank, Ranked}
 use Rattle.table.proofs.Moving.{passed-none, passed-more}
 use Rattle.table.proofs.Offering.{entries-same}
-use Rattle.table.proofs.Surveys.{fine, size-is, homes, closed, there, count-is, count-few}
-use Rattle.table.proofs.TwoSides.{count-more, count-rises, together}
+use Rattle.table.proofs.Surveys.{fine, size-is, homes, closed, small, count-is, count-few}
+use Rattle.table.proofs.TwoSides.{count-rises}
+use Rattle.table.proofs.Ranks.{rank-same, rank-over}
 
 -- a link that does not cross x, or an x that is not asked for: its record stays
 module _ (g : Net) (asked before : List ℕ) (e x : ℕ) where
@@ -70,6 +70,10 @@ joined true true y u v = refl
 joined true false y u v = refl
 joined false true y u v = refl
 joined false false y u v = refl
+
+pub differ-same : (a : Bool) → differ a a ≡ false
+differ-same true = refl
+differ-same false = refl
 
 differ-turn : (x y : Bool) → differ x y ≡ differ y x
 differ-turn true true = refl
@@ -110,7 +114,7 @@ record Apart (t : Tree) (a b : Side) : Type 0 where
   carries : Carries t (a .from) a
   free : (v : ℕ) → behind t a v ≡ true → under t v (b .from) ≡ false
 
--- two climbs from the ends of a spare link, up to where they meet: the nodes passed have gone on from e links to one more
+-- two climbs from the ends of a spare link: the nodes passed have gone on from e links to one more
 pub record Between (g : Net) (survey asked : List ℕ) (e k : ℕ) (row₀ : List ℕ) (a b : Side) (row : List ℕ) : Type 0 where
   surveyed : Surveyed g survey
   spare : Spare g e k
@@ -126,15 +130,27 @@ pub record Between (g : Net) (survey asked : List ℕ) (e k : ℕ) (row₀ : Lis
       (want g asked before e v))
       before row
 
+-- a row of entries in which the record of x, and no other, went on from e links to one more
+pub record Went (g : Net) (asked : List ℕ) (e x : ℕ) (row row′ : List ℕ) : Type 0 where
+  pub offered : OfferedAt g (g .nodes) asked e x row row′
+  pub size : length row′ ≡ length row
+
+module _ {g : Net} {asked : List ℕ} {e x : ℕ} {row row′ : List ℕ} where
+  -- by an offer, and without one
+  pub went-on : {row″ : List ℕ} → OfferedAt g (g .nodes) asked e x row row″ → length row″ ≡ length row → row′ ≡ row″ → Went g asked e x row row′
+  went-on o l q = rw q (record { offered = o; size = l })
+
+  pub went-still : OfferedAt g (g .nodes) asked e x row row → row′ ≡ row → Went g asked e x row row′
+  went-still o q = rw q (record { offered = o; size = refl })
+
 -- how many more nodes the two can come to have below them
 abbrev pub ahead : List ℕ → Side → Side → ℕ
 ahead survey a b = nodeLimit + nodeLimit - (knownAt survey (a .climb .node) .count + knownAt survey (b .climb .node) .count)
 
--- two climbs that have not met, the first with no more nodes below it than the second
+-- two climbs that go on, the first of them not above the second
 pub record Turn (g : Net) (survey asked : List ℕ) (e k : ℕ) (row₀ : List ℕ) (a b : Side) (row : List ℕ) : Type 0 where
   between : Between g survey asked e k row₀ a b row
-  few : count (treeOf g) (a .climb .node) ≤ count (treeOf g) (b .climb .node)
-  parted : a .climb .node ≡ b .climb .node → ⊥
+  not-over : under (treeOf g) (a .climb .node) (b .climb .node) ≡ false
 
 module _ (t : Tree) (y : ℕ) (a : Side) (c : Carries t y a) where
   own : Carries t (a .from) a
@@ -143,8 +159,8 @@ module _ (t : Tree) (y : ℕ) (a : Side) (c : Carries t y a) where
   none-behind : Home t y → a .climb .node ≡ y → (v : ℕ) → behind t a v ≡ false
   none-behind h q v = rw (q, c .from-is, passed-none t y h v)
 
-module _ {g : Net} {search : Search} {asked survey anchors row : List ℕ} {e k : ℕ} {a b : Side}
-    (h : Climbing g search asked survey anchors row e k a b) where
+module _ {g : Net} {search : Search} {asked survey ranks row : List ℕ} {e k : ℕ} {a b : Side}
+    (h : Climbing g search asked survey ranks row e k a b) where
   sv : Surveyed g survey
   sv = h .searching .surveyed
 
@@ -196,79 +212,82 @@ module _ {g : Net} {survey asked : List ℕ} {e k : ℕ} {row₀ : List ℕ} whe
     node-low : a .climb .node < g .nodes
     node-low = omega (arith, node-in, size-is (i .surveyed))
 
-    pub node-known : a .climb .node < nodesIn survey
-    node-known = there (i .surveyed) (a .climb .node) node-low
-
     count-at : knownAt survey (a .climb .node) .count ≡ count (treeOf g) (a .climb .node)
     count-at = count-is (i .surveyed) _ node-low _ refl
 
   module _ {a b : Side} {row : List ℕ} (i : Between g survey asked e k row₀ a b row) where
-    -- where they meet, every node that the link crosses was passed
-    module _ {p q : ℕ} (pe : p ≡ a .climb .node) (qe : q ≡ b .climb .node) where
-      meeting : p ≡ q → a .climb .node ≡ meet (treeOf g) (a .from) (b .from)
-      meeting met =
-          together (treeOf g) (a .from) (b .from) (a .climb .node) (node-on i)
-          (subst (λ (v : ℕ). under (treeOf g) v (b .from) ≡ true) (sym qe ∙ sym met ∙ pe) (node-on (between-turn i))) (i .one .free)
+    module _ {ranks : List ℕ} (r : Ranked (treeOf g) asked ranks) where
+      pub node-ranked : (a .climb .node < nodeLimit) × (a .climb .node < length ranks)
+      node-ranked = (omega (arith, node-in i, small (i .surveyed)), omega (arith, node-in i, r .room))
 
-      path-is : p ≡ q → (v : ℕ) → (behind (treeOf g) a v || behind (treeOf g) b v) ≡ onPath (treeOf g) (a .from) (b .from) v
-      unfolding onPath
-      path-is met v = rw (sym qe ∙ sym met ∙ pe, meeting met)
+      rank-at : {x : ℕ} → x ≡ getD ranks (a .climb .node) 0 → x ≡ rank (treeOf g) asked (a .climb .node)
+      rank-at q = q ∙ r .each _ (node-in i)
 
-      not-crossed : p ≡ q → (v : ℕ) → (behind (treeOf g) a v || behind (treeOf g) b v) ≡ false → crosses (treeOf g) v e (g .link e) ≡ false
-      unfolding crosses
-      not-crossed met v c =
-          rw
-          (end-differs (treeOf g) (i .ends) v
-          ∙ sym (on-path (treeOf g) _ _ v (from-home i) (from-home (between-turn i))) ∙ sym (path-is met v) ∙ c)
-          (and-none (inService (g .link e) && not (eqb e (treeOf g .link v))))
+  module _ {a b : Side} {row : List ℕ} (i : Between g survey asked e k row₀ a b row) {ranks : List ℕ} (r : Ranked (treeOf g) asked ranks)
+      {x y : ℕ} (xe : x ≡ getD ranks (a .climb .node) 0) (ye : y ≡ getD ranks (b .climb .node) 0) where
+    x-is : x ≡ rank (treeOf g) asked (a .climb .node)
+    x-is = rank-at i r xe
 
-      all-done :
-          p ≡ q
-          → (before : List ℕ) (v : ℕ) (t : Bool) → (behind (treeOf g) a v || behind (treeOf g) b v) ≡ t
-          → cond t (want g asked before (suc e) v) (want g asked before e v) ≡ want g asked before (suc e) v
-      all-done met before v true c = refl
-      all-done met before v false c = sym (want-kept g asked before e v (λ m. not-crossed met v c))
+    y-is : y ≡ rank (treeOf g) asked (b .climb .node)
+    y-is = rank-at (between-turn i) r ye
 
-      pub between-end : p ≡ q → Linked g (g .nodes) asked e row₀ row
-      between-end met = record { goes-on = λ before h. entries-same _ _ _ before row (λ v l. all-done met before v _ refl) (i .rows before h) }
+    -- where both have the same rank, every node asked for that the link crosses was passed
+    ahead-of : (v : ℕ) → (behind (treeOf g) a v || behind (treeOf g) b v) ≡ false
+        → (under (treeOf g) v (a .from) ≡ under (treeOf g) v (a .climb .node)) × (under (treeOf g) v (b .from) ≡ under (treeOf g) v (b .climb .node))
+    ahead-of v c =
+        let z = or-false (behind (treeOf g) a v) (behind (treeOf g) b v) c in (
+          under-cut (treeOf g) (a .from) (a .climb .node) v (from-home i) (node-on i) ∙ rw (z .0),
+          under-cut (treeOf g) (b .from) (b .climb .node) v (from-home (between-turn i)) (node-on (between-turn i)) ∙ rw (z .1),
+        )
 
-      -- the one with fewer nodes below it is next
-      module _ {x y : ℕ} (xe : x ≡ knownAt survey (b .climb .node) .count) (ye : y ≡ knownAt survey (a .climb .node) .count) (f : p ≡ q → ⊥) where
-        pub first-next : y ≤ x → Turn g survey asked e k row₀ a b row
-        first-next l =
-            record {
-              between = i;
-              few = omega (arith, count-at i, count-at (between-turn i), xe, ye, l);
-              parted = λ h. f (pe ∙ h ∙ sym qe);
-            }
+    no-longer :
+        x ≡ y
+        → (v : ℕ) → isAsked asked v ≡ true → (behind (treeOf g) a v || behind (treeOf g) b v) ≡ false
+        → differ (under (treeOf g) v (a .from)) (under (treeOf g) v (b .from)) ≡ false
+    no-longer met v o c =
+        let z = ahead-of v c in
+        rw (z .0, z .1, rank-same (i .surveyed) asked _ _ (node-in i) (node-in (between-turn i)) (sym x-is ∙ met ∙ y-is) v o)
+        (differ-same (under (treeOf g) v (b .climb .node)))
 
-        pub second-next : x < y → Turn g survey asked e k row₀ b a row
-        second-next l =
-            record {
-              between = between-turn i;
-              few = omega (arith, count-at i, count-at (between-turn i), xe, ye, l);
-              parted = λ h. f (pe ∙ sym h ∙ sym qe);
-            }
+    not-crossed :
+        x ≡ y
+        → (v : ℕ) → isAsked asked v ≡ true → (behind (treeOf g) a v || behind (treeOf g) b v) ≡ false
+        → crosses (treeOf g) v e (g .link e) ≡ false
+    unfolding crosses
+    not-crossed met v o c =
+        rw (end-differs (treeOf g) (i .ends) v ∙ no-longer met v o c) (and-none (inService (g .link e) && not (eqb e (treeOf g .link v))))
+
+    all-done :
+        x ≡ y
+        → (before : List ℕ) (v : ℕ) (t : Bool) → (behind (treeOf g) a v || behind (treeOf g) b v) ≡ t
+        → cond t (want g asked before (suc e) v) (want g asked before e v) ≡ want g asked before (suc e) v
+    all-done met before v true c = refl
+    all-done met before v false c = sym (want-kept g asked before e v (λ m. not-crossed met v m c))
+
+    pub between-end : x ≡ y → Linked g (g .nodes) asked e row₀ row
+    between-end met = record { goes-on = λ before h. entries-same _ _ _ before row (λ v l. all-done met before v _ refl) (i .rows before h) }
+
+    -- else the one whose anchor has no more nodes below it is next
+    pub first-next : (x ≡ y → ⊥) → x / rankStep ≤ y / rankStep → Turn g survey asked e k row₀ a b row
+    first-next n l =
+        record {
+          between = i;
+          not-over =
+              rank-over (i .surveyed) asked _ _ (node-in i) (node-in (between-turn i))
+              (rw (← x-is, ← y-is) l)
+              (λ q. n (x-is ∙ q ∙ sym y-is));
+        }
 
   -- the link crosses the node where the first is, and the first goes on
   module _ {a b : Side} {row : List ℕ} (turn : Turn g survey asked e k row₀ a b row) where
     i : Between g survey asked e k row₀ a b row
     i = turn .between
 
-    not-over : under (treeOf g) (a .climb .node) (b .climb .node) ≡ false
-    not-over =
-        not-so _
-        (λ q. omega (
-          arith,
-          count-more (treeOf g) (homes (i .surveyed)) _ _ (node-in i) (node-in (between-turn i)) q (turn .parted),
-          turn .few,
-        ))
-
     not-behind : behind (treeOf g) b (a .climb .node) ≡ false
     not-behind = not-so _ (λ q. clash (node-on i) (i .two .free _ q))
 
     off : under (treeOf g) (a .climb .node) (b .from) ≡ false
-    off = under-cut (treeOf g) _ (b .climb .node) _ (from-home (between-turn i)) (node-on (between-turn i)) ∙ ap₂ _||_ not-behind not-over
+    off = under-cut (treeOf g) _ (b .climb .node) _ (from-home (between-turn i)) (node-on (between-turn i)) ∙ ap₂ _||_ not-behind (turn .not-over)
 
     below-root : a .climb .node ≡ treeOf g .root → ⊥
     below-root q = clash (under-root (treeOf g) _ (from-home (between-turn i))) (subst (λ (v : ℕ). under (treeOf g) v (b .from) ≡ false) q off)
@@ -293,14 +312,14 @@ module _ {g : Net} {survey asked : List ℕ} {e k : ℕ} {row₀ : List ℕ} whe
     stepping = record { surveyed = i .surveyed; carries = i .one .carries; low = from-in i; below = below-root }
 
     pub offering :
-        {search : Search} {anchors : List ℕ} {a₀ b₀ : Side}
-        → Climbing g search asked survey anchors row₀ e k a₀ b₀ → Offering g search asked survey anchors row e k a
+        {search : Search} {ranks : List ℕ} {a₀ b₀ : Side}
+        → Climbing g search asked survey ranks row₀ e k a₀ b₀ → Offering g search asked survey ranks row e k a
     offering h =
         record {
           searching =
               record {
                 surveyed = i .surveyed;
-                anchored = h .searching .anchored;
+                ranked = h .searching .ranked;
                 room = omega (arith, i .size, h .searching .room);
               };
           search-is = h .search-is;

@@ -2,12 +2,12 @@
 use mathlib.Core.Path.{_≡_, refl, sym, subst, ap, _∙_}
 use mathlib.Core.Bool.{Bool, true, false, cond, not, _&&_, _||_}
 use mathlib.Core.List.{List}
-use Prim.Native.Nat.{ℕ, suc, _+_, _<_, _≤_}
+use Prim.Native.Nat.{ℕ, suc, _+_, _%_, _<_, _≤_}
 use native.Mathlib.Omega.{arith}
 use native.Mathlib.Numerals.{add-one}
 use lib.Dec.{eqb, leb, ltb}
 use lib.ListN.{length, getD}
-use borrow.Author.Tests.{eqb-true, eq-eqb, ne-eqb, le-ltb, lt-ltb, leb-true, ltb-false, not-true}
+use borrow.Author.Tests.{eqb-true, eq-eqb, ne-eqb, le-ltb, lt-ltb, leb-true, ltb-false, not-true, not-false}
 use Rattle.edition.specs.declared.Search.{Search}
 use Rattle.edition.specs.declared.Swap.{Swap}
 use Rattle.edition.specs.declared.Entry.{Entry}
@@ -24,12 +24,13 @@ use Rattle.table.specs.declared.Offer.{Offer}
 use Rattle.table.specs.declared.Costs.{Costs}
 use Rattle.table.specs.declared.Side.{Side}
 use Rattle.table.specs.Table.{isAsked}
-use Rattle.table.specs.Work.{Entries, Offering, Priced, want, OfferedAt, withinBy}
+use Rattle.table.specs.Work.{Entries, rankStep, Offering, Priced, want, OfferedAt, Worth, withinBy}
 use Rattle.table.proofs.Prefixes.{entry-offered, links-low}
 use Rattle.table.proofs.Slots.{entry-known, entries-put}
+use Rattle.survey.specs.Known.{count}
 use Rattle.table.proofs.Surveys.{size-is, in-tree, homes, small}
 use Rattle.table.proofs.Pricing.{x-low}
-use Rattle.table.proofs.Anchors.{anchor-own, anchor-other}
+use Rattle.table.proofs.Ranks.{rank-parts, rank-own, rank-other}
 
 -- the same records, told otherwise
 pub entries-same : (n : ℕ) (f g : ℕ → List ℕ) (before row : List ℕ) → ((x : ℕ) → x < n → f x ≡ g x) → Entries n f before row → Entries n g before row
@@ -128,13 +129,13 @@ module _ (old : Entry) (c : Costs) (h : noBetter old c ≡ true) where
       rw has-swap
       (λ i. record { state = sym (eqb-true (old .state) swapState has-swap) i; sum = old .sum; incr = old .incr; max = old .max })
 
-module _ {g : Net} {search : Search} {asked survey anchors row : List ℕ} {e k : ℕ} {s : Side}
-    (h : Offering g search asked survey anchors row e k s) where
+module _ {g : Net} {search : Search} {asked survey ranks row : List ℕ} {e k : ℕ} {s : Side}
+    (h : Offering g search asked survey ranks row e k s) where
   pub low : s .climb .node < g .nodes
   low = x-low (h .costing)
 
-  pub has-anchor : s .climb .node < length anchors
-  has-anchor = omega (arith, low, h .searching .anchored .room, size-is (h .searching .surveyed))
+  pub has-rank : s .climb .node < length ranks
+  has-rank = omega (arith, low, h .searching .ranked .room, size-is (h .searching .surveyed))
 
   pub has-entry : s .climb .node < entriesIn row
   has-entry = omega (arith, low, h .searching .room)
@@ -148,29 +149,33 @@ module _ {g : Net} {search : Search} {asked survey anchors row : List ℕ} {e k 
   node-in : s .climb .node < treeOf g .size
   node-in = in-tree (h .searching .surveyed) _ low
 
-  -- by its anchor a node is asked for or not
-  pub is-asked : getD anchors (s .climb .node) 0 ≡ s .climb .node + 1 → isAsked asked (s .climb .node) ≡ true
+  -- by the number in its rank a node is asked for or not
+  pub is-asked : getD ranks (s .climb .node) 0 % rankStep ≡ s .climb .node + 1 → isAsked asked (s .climb .node) ≡ true
   is-asked q = go (isAsked asked (s .climb .node)) refl
     where
       go : (b : Bool) → isAsked asked (s .climb .node) ≡ b → isAsked asked (s .climb .node) ≡ true
       go true p = p
       go false p =
           absurd
-          (anchor-other (treeOf g) asked (s .climb .node) (homes (h .searching .surveyed) _ node-in) node-few p
-          (sym (h .searching .anchored .each _ node-in) ∙ q ∙ add-one (s .climb .node)))
+          (rank-other (h .searching .surveyed) asked (s .climb .node) node-in p
+          (ap (λ (r : ℕ). r % rankStep) (sym (h .searching .ranked .each _ node-in)) ∙ q ∙ add-one (s .climb .node)))
 
-  pub not-asked : (getD anchors (s .climb .node) 0 ≡ s .climb .node + 1 → ⊥) → isAsked asked (s .climb .node) ≡ false
+  pub not-asked : (getD ranks (s .climb .node) 0 % rankStep ≡ s .climb .node + 1 → ⊥) → isAsked asked (s .climb .node) ≡ false
   not-asked n =
       not-so (isAsked asked (s .climb .node))
       (λ p. n
-      (h .searching .anchored .each _ node-in
-      ∙ anchor-own (treeOf g) asked (s .climb .node) (homes (h .searching .surveyed) _ node-in) p ∙ sym (add-one (s .climb .node))))
+      (ap (λ (r : ℕ). r % rankStep)
+      (h .searching .ranked .each _ node-in ∙ rank-own (treeOf g) asked (s .climb .node) (homes (h .searching .surveyed) _ node-in) p)
+      ∙ rank-parts (count (treeOf g) (s .climb .node)) node-few .1 ∙ sym (add-one (s .climb .node))))
 
   -- a node that is not asked for
-  pub offered-none : isAsked asked (s .climb .node) ≡ false → OfferedAt g (g .nodes) asked e (s .climb .node) row row
+  offered-none : isAsked asked (s .climb .node) ≡ false → OfferedAt g (g .nodes) asked e (s .climb .node) row row
   offered-none z =
       offered-still g (g .nodes) asked e (s .climb .node) row
       (λ before f i w. w ∙ want-unmarked g asked before e (suc e) (s .climb .node) z)
+
+  pub worth-none : isAsked asked (s .climb .node) ≡ false → Worth g (g .nodes) asked e (s .climb .node) row false
+  worth-none z = record { yes = λ w. clash w refl; no = λ w. offered-none z }
 
   near-is :
       (b : Bool)
@@ -203,7 +208,7 @@ module _ {g : Net} {search : Search} {asked survey anchors row : List ℕ} {e k 
         sym (entry-offered g (s .climb .node) off e (h .costing .crossing .cross) b q v (r .sum-is) (r .incr-is) (r .max-is))
 
     -- which it makes no better
-    pub offered-kept : noBetter old v ≡ true → OfferedAt g (g .nodes) asked e (s .climb .node) row row
+    offered-kept : noBetter old v ≡ true → OfferedAt g (g .nodes) asked e (s .climb .node) row row
     offered-kept n =
         offered-still g (g .nodes) asked e (s .climb .node) row
         (λ before f i w.
@@ -212,6 +217,10 @@ module _ {g : Net} {search : Search} {asked survey anchors row : List ℕ} {e k 
         let stays = stays-old old v n e (subst (λ (o : Entry). (o .sum .link < e) × (o .incr .link < e) × (o .max .link < e)) (sym is) links) _ in
         w ∙ want-marked g asked before e (s .climb .node) on ∙ ap entryRow (sym is ∙ sym stays ∙ grown _ refl is)
         ∙ sym (want-marked g asked before (suc e) (s .climb .node) on))
+
+    -- what the test says of it
+    pub worth-so : {b : Bool} → b ≡ noBetter old v → Worth g (g .nodes) asked e (s .climb .node) row (not b)
+    worth-so {b} q = record { yes = λ z. on; no = λ z. offered-kept (sym q ∙ not-false b z) }
 
     pub offered-one :
         {b : Bool} {new : Entry} {row′ : List ℕ}

@@ -1,4 +1,4 @@
--- A whole search: the marked entries begin as the root's or a bridge's, and then every link is offered. Assumes nothing.
+-- A whole search: the entries asked for begin as the root's or a bridge's, and then every link is offered. Assumes nothing.
 use mathlib.Core.Path.{_≡_, refl, sym, subst, ap, _∙_}
 use mathlib.Core.Bool.{Bool, true, false, cond}
 use mathlib.Core.List.{List}
@@ -16,7 +16,7 @@ use Rattle.entries.specs.Row.{entryRow, entriesIn, standing, putEntry}
 use Rattle.tree.specs.Tree.{treeOf}
 use Rattle.sound.specs.Surveyed.{Surveyed}
 use Rattle.table.specs.Table.{isAsked, freshAt}
-use Rattle.table.specs.Work.{Anchored, Entries, Searching, want, startAt, Linked, LinkedTo}
+use Rattle.table.specs.Work.{Ranked, Entries, Searching, want, startAt, Linked, LinkedTo}
 use Rattle.table.proofs.Slots.{entries-put}
 use Rattle.table.proofs.Offering.{entries-same}
 
@@ -136,16 +136,16 @@ module _ (links parents : List ℕ) (search : Search) where
 
 -- what a search goes by stays while entries are written
 pub still-searching :
-    {g : Net} {asked survey anchors row row′ : List ℕ} {n k : ℕ}
-    → Searching g asked survey anchors row → LinkedTo g n asked k row row′ → Searching g asked survey anchors row′
+    {g : Net} {asked survey ranks row row′ : List ℕ} {n k : ℕ}
+    → Searching g asked survey ranks row → LinkedTo g n asked k row row′ → Searching g asked survey ranks row′
 still-searching h l =
-    record { surveyed = h .surveyed; anchored = h .anchored; room = omega (arith, h .room, l .size) }
+    record { surveyed = h .surveyed; ranked = h .ranked; room = omega (arith, h .room, l .size) }
 
 pub searching-start :
-    (links parents : List ℕ) (search : Search) {asked survey anchors before row : List ℕ} {f : ℕ → List ℕ}
-    → Surveyed (netOf links parents search) survey → Anchored (treeOf (netOf links parents search)) asked anchors
+    (links parents : List ℕ) (search : Search) {asked survey ranks before row : List ℕ} {f : ℕ → List ℕ}
+    → Surveyed (netOf links parents search) survey → Ranked (treeOf (netOf links parents search)) asked ranks
     → length parents ≤ entriesIn before → Entries (length parents) f before row
-    → Searching (netOf links parents search) asked survey anchors row
+    → Searching (netOf links parents search) asked survey ranks row
 unfolding netOf
 searching-start links parents search s a l h =
-    record { surveyed = s; anchored = a; room = omega (arith, h .size) }
+    record { surveyed = s; ranked = a; room = omega (arith, h .size) }

@@ -1,4 +1,4 @@
--- Which links are offered: those out of service and the tree's own cross nothing, and one whose ends have one anchor crosses no node
+-- Which links are offered: those out of service and the tree's own cross nothing, and one whose ends have one rank crosses no node
 -- asked for. Assumes nothing.
 use mathlib.Core.Path.{_≡_, refl, sym, subst, ap, _∙_}
 use mathlib.Core.Bool.{Bool, true, false, not, _&&_}
@@ -24,16 +24,12 @@ use Rattle.swap.specs.Swap.{crosses}
 use Rattle.swap.specs.Work.{through}
 use Rattle.network.proofs.Whole.{length-held}
 use Rattle.table.specs.Table.{isAsked}
-use Rattle.table.specs.Work.{Starts, Started, Searching, Spare, Climbing, Linked, anchor, Anchored}
+use Rattle.table.specs.Work.{Starts, Started, Searching, Spare, Climbing, Linked, rank, Ranked}
 use Rattle.table.specs.declared.Side.{Side}
 use Rattle.table.proofs.Surveys.{fine, size-is, in-tree, dist-few}
-use Rattle.table.proofs.Anchors.{anchor-same}
+use Rattle.table.proofs.Ranks.{rank-same}
 use Rattle.table.proofs.Offering.{entries-same}
-use Rattle.table.proofs.Linking.{want-kept}
-
-differ-same : (a : Bool) → differ a a ≡ false
-differ-same true = refl
-differ-same false = refl
+use Rattle.table.proofs.Linking.{want-kept, differ-same}
 
 linked-none :
     (g : Net) (n : ℕ) (asked : List ℕ) (e : ℕ) (row : List ℕ)
@@ -93,17 +89,17 @@ module _ (g : Net) (s : Sound g) (e : ℕ) (there : e < g .links) where
   unfolding crosses
   idle q x = rw q
 
-  -- nor, where its ends have one anchor, any node asked for
-  one-anchor :
-      (asked : List ℕ)
-      → anchor (treeOf g) asked (g .link e .first) ≡ anchor (treeOf g) asked (g .link e .second) → (x : ℕ) → isAsked asked x ≡ true
+  -- nor, where its ends have one rank, any node asked for
+  one-rank :
+      {survey : List ℕ} (sv : Surveyed g survey) (asked : List ℕ)
+      → rank (treeOf g) asked (g .link e .first) ≡ rank (treeOf g) asked (g .link e .second) → (x : ℕ) → isAsked asked x ≡ true
       → crosses (treeOf g) x e (g .link e) ≡ false
-  unfolding crosses treeOf
-  one-anchor asked q x o =
+  unfolding crosses
+  one-rank sv asked q x o =
       rw (
-        anchor-same (treeOf g) asked (home g s) (up-in g s) (nodes-few g s) _ _ (first-in g s e there) (second-in g s e there) q x o,
+        rank-same sv asked _ _ (in-tree sv _ (first-in g s e there)) (in-tree sv _ (second-in g s e there)) q x o,
         differ-same (under (treeOf g) x (g .link e .second)),
-        and-none (inService (g .link e) && not (eqb e (g .parent x))),
+        and-none (inService (g .link e) && not (eqb e (treeOf g .link x))),
       )
 
 module _ (links parents : List ℕ) (search : Search) where
@@ -151,17 +147,17 @@ module _ (links parents : List ℕ) (search : Search) where
           it : g .parent (g .link e .second) ≡ e
           it = rw link-is (parent-is _ ∙ sym q ∙ r)
 
-      module _ {anchors : List ℕ} (h : Anchored (treeOf g) asked anchors) where
-        pub first-anchored : l .first < length anchors
-        first-anchored = omega (arith, first-node, h .room, size-is sv)
+      module _ {ranks : List ℕ} (h : Ranked (treeOf g) asked ranks) where
+        pub first-ranked : l .first < length ranks
+        first-ranked = omega (arith, first-node, h .room, size-is sv)
 
-        pub second-anchored : l .second < length anchors
-        second-anchored = omega (arith, second-node, h .room, size-is sv)
+        pub second-ranked : l .second < length ranks
+        second-ranked = omega (arith, second-node, h .room, size-is sv)
 
-        pub skip-anchored : getD anchors (l .first) 0 ≡ getD anchors (l .second) 0 → Linked g (g .nodes) asked e row row
-        skip-anchored q = linked-none _ _ asked e row (one-anchor _ (fine sv) e in-net asked same)
+        pub skip-ranked : getD ranks (l .first) 0 ≡ getD ranks (l .second) 0 → Linked g (g .nodes) asked e row row
+        skip-ranked q = linked-none _ _ asked e row (one-rank _ (fine sv) e in-net sv asked same)
           where
-            same : anchor (treeOf g) asked (g .link e .first) ≡ anchor (treeOf g) asked (g .link e .second)
+            same : rank (treeOf g) asked (g .link e .first) ≡ rank (treeOf g) asked (g .link e .second)
             same =
                 rw link-is
                 (sym (h .each _ (in-tree sv _ first-node)) ∙ q ∙ h .each _ (in-tree sv _ second-node))
@@ -201,9 +197,9 @@ module _ (links parents : List ℕ) (search : Search) where
         search-is = refl
 
         pub climbing :
-            {asked anchors row : List ℕ}
-            → Searching g asked survey anchors row
-            → Climbing g search asked survey anchors row e (a .near + l .length + b .near) a b
+            {asked ranks row : List ℕ}
+            → Searching g asked survey ranks row
+            → Climbing g search asked survey ranks row e (a .near + l .length + b .near) a b
         climbing h =
             record {
               searching = h;

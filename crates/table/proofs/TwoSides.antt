@@ -1,4 +1,4 @@
--- Two climbs: where one is above the other it has more nodes below it, and where the two come together, the routes meet. Assumes nothing.
+-- A node above another has more nodes below it. Assumes nothing.
 use mathlib.Core.Path.{_≡_, refl, subst}
 use mathlib.Core.Bool.{Bool, true, false}
 use Prim.Native.Nat.{ℕ, _<_, _≤_}
@@ -36,11 +36,3 @@ module _ (t : Tree) (all : (u : ℕ) → u < t .size → Home t u) where
   count-rises x lx lp r =
       count-more (t .up x) x lp lx (up-above t x (all x lx) x (under-self t x (all x lx)) r)
       (λ q. clash (under-self t x (all x lx)) (subst (λ (v : ℕ). under t x v ≡ false) q (below-not t x (all x lx) r)))
-
--- where the two climbs come together, the routes meet
-pub together :
-    (t : Tree) (p q x : ℕ)
-    → under t x p ≡ true → under t x q ≡ true → ((v : ℕ) → has v (upTo x (route t p)) ≡ true → under t v q ≡ false)
-    → x ≡ meet t p q
-unfolding meet under
-together t p q x px qx none = meets-only (route t p) (route t q) x (record { one = px; two = qx; none = none })

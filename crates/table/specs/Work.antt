@@ -2,11 +2,13 @@
 use mathlib.Core.Path.{_≡_}
 use mathlib.Core.Bool.{Bool, true, false, cond, _||_}
 use mathlib.Core.List.{List, [], _∷_}
-use Prim.Native.Nat.{ℕ, suc, _<_, _≤_}
+use Prim.Native.Nat.{ℕ, suc, _+_, _*_, _<_, _≤_}
 use lib.Dec.{eqb, leb}
 use lib.ListN.{length, getD}
 use Rattle.edition.specs.declared.Search.{Search}
-use Rattle.edition.specs.Limits.{wholeSearch, longest, noNode}
+use Rattle.edition.specs.declared.Found.{Found}
+use Rattle.edition.specs.declared.Found.the-variants.{Nothing, At}
+use Rattle.edition.specs.Limits.{nodeLimit, wholeSearch, longest, noNode}
 use Rattle.edition.specs.Entries.{rootState, bridgeState, blank}
 use Rattle.edition.specs.declared.Measure.the-variants.{Sum, Incr, Max}
 use Rattle.network.specs.Network.{Net, inService}
@@ -14,7 +16,8 @@ use Rattle.tree.specs.Tree.{Tree, treeOf, route, dist}
 use Rattle.table.specs.declared.Costs.{Costs}
 use Rattle.sound.specs.Surveyed.{Surveyed}
 use Rattle.swap.specs.Swap.{innerEnd, crosses, costOf}
-use Rattle.survey.specs.Known.{turn as turnOf}
+use Rattle.survey.specs.Known.{count, turn as turnOf}
+use Rattle.survey.specs.Row.{nodesIn, knownAt}
 use Rattle.swap.specs.Work.{through, reach}
 use Rattle.tree.specs.Work.{Along}
 use Rattle.swap.specs.Entry.{entry}
@@ -34,29 +37,54 @@ pub record Entries (n : ℕ) (f : ℕ → List ℕ) (before after : List ℕ) : 
   pub each : (x : ℕ) → x < n → standing after x ≡ f x
   pub rest : pastEntries n after ≡ pastEntries n before
 
--- the first node of a list that is asked for, plus 1; 65,535 where none is
-unfoldable pub anchorIn : List ℕ → List ℕ → ℕ
-anchorIn asked [] = noNode
-anchorIn asked (u ∷ r) = let rest = anchorIn asked r in cond (isAsked asked u) (suc u) rest
+-- the first node of a list that is asked for
+unfoldable pub anchorIn : List ℕ → List ℕ → Found
+anchorIn asked [] = Nothing
+anchorIn asked (u ∷ r) = let rest = anchorIn asked r in cond (isAsked asked u) (At u) rest
 
 -- the anchor of u: that of its route
-unfoldable pub anchor : Tree → List ℕ → ℕ → ℕ
+unfoldable pub anchor : Tree → List ℕ → ℕ → Found
 anchor t asked u = anchorIn asked (route t u)
 
--- a row holds the anchor of each node
-pub record Anchored (t : Tree) (asked row : List ℕ) : Type 0 where
+-- the two parts of a rank: so many times how many nodes are below, and the number plus 1
+abbrev pub rankStep : ℕ
+rankStep = 65536
+
+-- the rank of node x with c nodes below it: the more, the higher, and no two nodes have one
+unfoldable pub rankOf : ℕ → ℕ → ℕ
+rankOf c x = c * rankStep + suc x
+
+-- the rank of an anchor; that of none is above all
+unfoldable pub rankBy : Tree → Found → ℕ
+rankBy t Nothing = noNode * rankStep
+rankBy t (At x) = rankOf (count t x) x
+
+-- the rank of u: that of its anchor
+unfoldable pub rank : Tree → List ℕ → ℕ → ℕ
+rank t asked u = rankBy t (anchor t asked u)
+
+-- a row holds the rank of each node
+pub record Ranked (t : Tree) (asked row : List ℕ) : Type 0 where
   pub room : t .size ≤ length row
-  pub each : (u : ℕ) → u < t .size → getD row u 0 ≡ anchor t asked u
+  pub each : (u : ℕ) → u < t .size → getD row u 0 ≡ rank t asked u
 
--- the anchor of x where x is asked for or the root, 0 elsewhere
-unfoldable pub firstAnchor : List ℕ → ℕ → ℕ → ℕ
-firstAnchor asked root x = cond (isAsked asked x) (suc x) (cond (eqb x root) noNode 0)
+-- a survey has a record of x, and a count in it that is no more than there can be nodes
+pub record Weighed (survey : List ℕ) (x : ℕ) : Type 0 where
+  pub there : x < nodesIn survey
+  pub low : x < nodeLimit
+  pub few : knownAt survey x .count ≤ nodeLimit
 
--- every number is 0 or the anchor; it is 0 at no node asked for, and not at the root
+-- the rank of x where x is asked for or the root, 0 elsewhere
+unfoldable pub firstRank : List ℕ → List ℕ → ℕ → ℕ → ℕ
+firstRank survey asked root x =
+    let other = cond (eqb x root) (noNode * rankStep) 0 in
+    cond (isAsked asked x) (rankOf (knownAt survey x .count) x) other
+
+-- every number is 0 or the rank; it is 0 at no node asked for, and not at the root
 pub record Partly (g : Net) (asked survey row : List ℕ) : Type 0 where
   pub surveyed : Surveyed g survey
   pub room : g .nodes ≤ length row
-  pub known : (x : ℕ) → x < g .nodes → (getD row x 0 ≡ 0 → ⊥) → getD row x 0 ≡ anchor (treeOf g) asked x
+  pub known : (x : ℕ) → x < g .nodes → (getD row x 0 ≡ 0 → ⊥) → getD row x 0 ≡ rank (treeOf g) asked x
   pub free : (x : ℕ) → x < g .nodes → getD row x 0 ≡ 0 → isAsked asked x ≡ false
   pub top : getD row (g .search .root) 0 ≡ 0 → ⊥
 
@@ -65,14 +93,14 @@ pub record Upward (g : Net) (asked survey row : List ℕ) (u : ℕ) : Type 0 whe
   pub partly : Partly g asked survey row
   pub low : u < g .nodes
 
--- u has its anchor, and every node that had one
+-- u has its rank, and every node that had one
 pub record Joined (g : Net) (asked survey : List ℕ) (u : ℕ) (row row′ : List ℕ) : Type 0 where
   pub partly : Partly g asked survey row′
   pub has : getD row′ u 0 ≡ 0 → ⊥
   pub still : (v : ℕ) → (getD row v 0 ≡ 0 → ⊥) → getD row′ v 0 ≡ 0 → ⊥
 
--- a surveyed network of n nodes, and a row with room for their anchors
-pub record Anchoring (g : Net) (survey : List ℕ) (root n : ℕ) (row : List ℕ) : Type 0 where
+-- a surveyed network of n nodes, and a row with room for their ranks
+pub record Ranking (g : Net) (survey : List ℕ) (root n : ℕ) (row : List ℕ) : Type 0 where
   pub surveyed : Surveyed g survey
   pub root-is : g .search .root ≡ root
   pub nodes-is : g .nodes ≡ n
@@ -128,19 +156,19 @@ pub record Costing (g : Net) (survey : List ℕ) (e k : ℕ) (s : Side) : Type 0
   pub stepping : Stepping g survey s
   pub crossing : Crossing g e s k
 
--- what a search goes by: a survey, the anchors, and a row with room for the entries
-pub record Searching (g : Net) (asked survey anchors entries : List ℕ) : Type 0 where
+-- what a search goes by: a survey, the ranks, and a row with room for the entries
+pub record Searching (g : Net) (asked survey ranks entries : List ℕ) : Type 0 where
   pub surveyed : Surveyed g survey
-  pub anchored : Anchored (treeOf g) asked anchors
+  pub ranked : Ranked (treeOf g) asked ranks
   pub room : g .nodes ≤ entriesIn entries
 
 -- in a search, a climb at a node that link e crosses
-pub record Offering (g : Net) (search : Search) (asked survey anchors entries : List ℕ) (e k : ℕ) (s : Side) : Type 0 where
-  pub searching : Searching g asked survey anchors entries
+pub record Offering (g : Net) (search : Search) (asked survey ranks entries : List ℕ) (e k : ℕ) (s : Side) : Type 0 where
+  pub searching : Searching g asked survey ranks entries
   pub search-is : g .search ≡ search
   pub costing : Costing g survey e k s
 
--- the record of x after k links: worked out where it is marked, as it stood elsewhere
+-- the record of x after k links: worked out where x is asked for, as it stood elsewhere
 unfoldable pub want : Net → List ℕ → List ℕ → ℕ → ℕ → List ℕ
 want g asked before k x = cond (isAsked asked x) (entryRow (entry (firstLinks g k) x)) (standing before x)
 
@@ -150,6 +178,11 @@ pub record OfferedAt (g : Net) (n : ℕ) (asked : List ℕ) (e x : ℕ) (row row
       (before : List ℕ) (f : ℕ → List ℕ)
       → Entries n f before row → f x ≡ want g asked before e x
       → Entries n (λ y. cond (eqb x y) (want g asked before (suc e) y) (f y)) before row′
+
+-- what a test says of offering link e at x: yes only where x is asked for, and where no, the record of x goes on as it stands
+pub record Worth (g : Net) (n : ℕ) (asked : List ℕ) (e x : ℕ) (row : List ℕ) (said : Bool) : Type 0 where
+  pub yes : said ≡ true → isAsked asked x ≡ true
+  pub no : said ≡ false → OfferedAt g n asked e x row row
 
 -- hops within a depth
 unfoldable pub withinBy : ℕ → ℕ → Bool
@@ -176,13 +209,13 @@ pub record Starting (g : Net) (e : ℕ) (a b : Side) : Type 0 where
   pub two-at : b .climb .node ≡ g .link e .second
 
 -- in a search, two climbs at the ends of a spare link
-pub record Climbing (g : Net) (search : Search) (asked survey anchors entries : List ℕ) (e k : ℕ) (a b : Side) : Type 0 where
-  pub searching : Searching g asked survey anchors entries
+pub record Climbing (g : Net) (search : Search) (asked survey ranks entries : List ℕ) (e k : ℕ) (a b : Side) : Type 0 where
+  pub searching : Searching g asked survey ranks entries
   pub search-is : g .search ≡ search
   pub spare : Spare g e k
   pub starting : Starting g e a b
 
--- the record of x before any link: the root's or a bridge's where x is marked, as it stood elsewhere
+-- the record of x before any link: the root's or a bridge's where x is asked for, as it stood elsewhere
 unfoldable pub startAt : ℕ → List ℕ → List ℕ → ℕ → List ℕ
 startAt root asked before x =
     let first = blank (cond (eqb x root) rootState bridgeState) in

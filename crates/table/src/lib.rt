@@ -2,7 +2,7 @@
 ghost use mathlib.Core.Path.{_≡_};
 ghost use mathlib.Core.List.{List, _++_};
 ghost use Prim.Native.Nat.{ℕ, _+_, _*_, _<_, _≤_, _^_, max};
-ghost use lib.ListN.{length};
+ghost use lib.ListN.{length, getD};
 ghost use lib.Dec.{eqb};
 ghost use mathlib.Core.Bool.{true, false, cond};
 ghost use Rattle.entries.specs.Row.{entriesIn, putEntry, pastEntries};
@@ -16,9 +16,9 @@ ghost use Rattle.survey.specs.Row.{nodesIn, knownAt};
 ghost use Rattle.sound.specs.Sound.{netVerdict};
 ghost use Rattle.sound.specs.Surveyed.{Surveyed, soundRow};
 ghost use Rattle.swap.specs.Entry.{entry};
-ghost use Rattle.table.specs.Work.{Starts, Started, Stepping, Stepped, Costing, Priced, Searching, Offering, OfferedAt, withinBy};
-ghost use Rattle.table.specs.Work.{Climbing, Linked, LinkedTo, Entries, startAt, anchor, Anchored, firstAnchor, Partly, Upward, Joined};
-ghost use Rattle.table.specs.Work.{Anchoring};
+ghost use Rattle.table.specs.Work.{Starts, Started, Stepping, Stepped, Costing, Priced, Searching, Offering, OfferedAt, Worth, withinBy};
+ghost use Rattle.table.specs.Work.{Climbing, Linked, LinkedTo, Entries, startAt, rankOf, rank, Ranked, Weighed};
+ghost use Rattle.table.specs.Work.{firstRank, Partly, Upward, Joined, Ranking};
 ghost use Rattle.table.specs.Prefix.{better, noBetter, kept, offered};
 ghost use Rattle.table.specs.Table.{isAsked, freshAt, tableVerdict, workVerdict, freshRow, tableRow, entryVerdict, entryAnswer};
 use edition::Edition;
@@ -38,6 +38,9 @@ struct Offer {
     pub cost: u64,
     pub incr: u64,
 }
+
+// A rank is how many nodes are below an anchor, so many times, and its number plus 1.
+const STEP: u32 = 65536;
 
 // What a link costs a node under each measure.
 struct Costs {
@@ -254,104 +257,120 @@ fn no_better(old: Entry, c: Costs) -> bool
     m.cost <= c.max
 }
 
-// Offers link e to the node where the climb is, where that node is asked for.
-fn offer_at(
-    search: Search,
-    survey: &[u64],
-    anchors: &[u16],
-    entries: &mut [u64],
-    side: Side,
-    e: usize,
-    k: u64,
-)
-    requires { ⌜ ((g : Net) × (asked : List ℕ) × Offering g search asked (now survey) (now anchors) (now entries) e k side) ⌝ }
+// The rank of node x, were it asked for.
+fn own_rank(survey: &[u64], x: usize) -> u32
+    requires { ⌜ Weighed (now survey) x ⌝ }
+    ensures { λ r. ⌜ r ≡ rankOf (knownAt (now (survey .entry)) x .count) x ⌝ }
+{
+    let k = survey::known_at(survey, x);
+    k.count as u32 * STEP + x as u32 + 1
+}
+
+// Whether link e can better the entry of the node where the climb is: that node is asked for, and has no swap link yet or one that
+// costs more under a measure.
+fn is_worth(survey: &[u64], ranks: &[u32], entries: &[u64], side: Side, k: u64) -> bool
+    requires { ⌜ ((g : Net) × (search : Search) × (asked : List ℕ) × (e : ℕ) × Offering g search asked (now survey) (now ranks) (now entries) e k side) ⌝ }
+    ensures { λ r.
+        let row = now (entries .entry) in
+        ⌜ ((g : Net) (search : Search) (asked : List ℕ) (e : ℕ)
+        → Offering g search asked (now (survey .entry)) (now (ranks .entry)) row e k side
+        → Worth g (g .nodes) asked e (side .climb .node) row r) ⌝ }
+{
+    let climb = side.climb;
+    let x = climb.node;
+    if ranks[x] % STEP != x as u32 + 1 {
+        return false;
+    }
+    let c = costs_of(survey, side, k);
+    let old = entries::entry_there(entries, x);
+    !no_better(old, c)
+}
+
+// Offers link e to the node where the climb is, which is asked for.
+fn offer_at(search: Search, survey: &[u64], entries: &mut [u64], side: Side, e: usize, k: u64)
+    requires { ⌜ ((g : Net) × (asked : List ℕ) × (ranks : List ℕ)
+        × Offering g search asked (now survey) ranks (now entries) e k side
+        × (isAsked asked (side .climb .node) ≡ true)) ⌝ }
     ensures { λ _.
         let row = now (entries .entry) in
-        ⌜ ((g : Net) (asked : List ℕ)
-        → Offering g search asked (now (survey .entry)) (now (anchors .entry)) row e k side
+        ⌜ ((g : Net) (asked ranks : List ℕ)
+        → Offering g search asked (now (survey .entry)) ranks row e k side
+        → isAsked asked (side .climb .node) ≡ true
         → OfferedAt g (g .nodes) asked e (side .climb .node) row (now (entries .exit))) ⌝ }
 {
     let climb = side.climb;
     let x = climb.node;
-    if anchors[x] as usize != x + 1 {
-        return;
-    }
     let c = costs_of(survey, side, k);
     let old = entries::entry_there(entries, x);
-    if no_better(old, c) {
-        return;
-    }
     let near_enough = is_within(search.depth, climb.hops);
     let new = with_link(old, near_enough, e as u64, c);
     entries::put_there(entries, x, new);
 }
 
-// The node where a climb is.
-fn node_of(side: Side) -> usize
-    ensures { λ r. ⌜ r ≡ side .climb .node ⌝ }
+// The rank where a climb is.
+fn rank_at(ranks: &[u32], side: Side) -> u32
+    requires { ⌜ (side .climb .node < nodeLimit) × (side .climb .node < length (now ranks)) ⌝ }
+    ensures { λ r. ⌜ r ≡ getD (now (ranks .entry)) (side .climb .node) 0 ⌝ }
 {
     let climb = side.climb;
-    climb.node
+    let x = climb.node;
+    ranks[x]
 }
 
-// How many nodes are below where a climb is, itself among them.
-fn below(survey: &[u64], side: Side) -> u64
-    requires { ⌜ side .climb .node < nodesIn (now survey) ⌝ }
-    ensures { λ r. ⌜ r ≡ knownAt (now (survey .entry)) (side .climb .node) .count ⌝ }
-{
-    let k = survey::known_at(survey, node_of(side));
-    k.count
-}
-
-// Offers link e to every node asked for that it crosses, by a climb from each end up to where the routes meet.
+// Offers link e to every node asked for that it crosses, by a climb from each end up to where both have the same rank. The one
+// whose anchor has fewer nodes below it is not above the other, and goes on; one that has no anchor stands still.
 fn climb_link(
     search: Search,
     survey: &[u64],
-    anchors: &[u16],
+    ranks: &[u32],
     entries: &mut [u64],
     first: Side,
     second: Side,
     e: usize,
     k: u64,
 )
-    requires { ⌜ ((g : Net) × (asked : List ℕ) × Climbing g search asked (now survey) (now anchors) (now entries) e k first second) ⌝ }
+    requires { ⌜ ((g : Net) × (asked : List ℕ) × Climbing g search asked (now survey) (now ranks) (now entries) e k first second) ⌝ }
     ensures { λ _.
         let row = now (entries .entry) in
         ⌜ ((g : Net) (asked : List ℕ)
-        → Climbing g search asked (now (survey .entry)) (now (anchors .entry)) row e k first second
+        → Climbing g search asked (now (survey .entry)) (now (ranks .entry)) row e k first second
         → Linked g (g .nodes) asked e row (now (entries .exit))) ⌝ }
 {
     let mut a = first;
     let mut b = second;
-    while node_of(a) != node_of(b) {
-        if below(survey, b) < below(survey, a) {
-            offer_at(search, survey, anchors, entries, b, e, k);
+    while rank_at(ranks, a) != rank_at(ranks, b) {
+        if rank_at(ranks, b) / STEP < rank_at(ranks, a) / STEP {
+            if is_worth(survey, ranks, entries, b, k) {
+                offer_at(search, survey, entries, b, e, k);
+            }
             b = b.step(survey);
         } else {
-            offer_at(search, survey, anchors, entries, a, e, k);
+            if is_worth(survey, ranks, entries, a, k) {
+                offer_at(search, survey, entries, a, e, k);
+            }
             a = a.step(survey);
         }
     }
 }
 
 // Offers link e to every node asked for that it crosses. A link out of service and a tree link cross none; a link whose ends have one
-// anchor crosses none that is asked for.
+// rank crosses none that is asked for.
 fn offer_link(
     links: &[u16],
     parents: &[u16],
     search: Search,
     survey: &[u64],
-    anchors: &[u16],
+    ranks: &[u32],
     entries: &mut [u64],
     e: usize,
 )
     requires { let g = netOf (now links) (now parents) search in
-        ⌜ ((asked : List ℕ) × Searching g asked (now survey) (now anchors) (now entries) × (e < linksIn (now links))) ⌝ }
+        ⌜ ((asked : List ℕ) × Searching g asked (now survey) (now ranks) (now entries) × (e < linksIn (now links))) ⌝ }
     ensures { λ _.
         let g = netOf (now (links .entry)) (now (parents .entry)) search in
         let row = now (entries .entry) in
         ⌜ ((asked : List ℕ)
-        → Searching g asked (now (survey .entry)) (now (anchors .entry)) row
+        → Searching g asked (now (survey .entry)) (now (ranks .entry)) row
         → Linked g (g .nodes) asked e row (now (entries .exit))) ⌝ }
 {
     let l = network::link_at(links, e);
@@ -366,13 +385,13 @@ fn offer_link(
     if network::parent_of(parents, q) as usize == e {
         return;
     }
-    if anchors[p] == anchors[q] {
+    if ranks[p] == ranks[q] {
         return;
     }
     let a = begin_side(survey, p);
     let b = begin_side(survey, q);
     let k = a.near + l.length as u64 + b.near;
-    climb_link(search, survey, anchors, entries, a, b, e, k);
+    climb_link(search, survey, ranks, entries, a, b, e, k);
 }
 
 // The entry of x before any link: the root's, or a bridge's.
@@ -419,113 +438,115 @@ fn offer_links(
     parents: &[u16],
     search: Search,
     survey: &[u64],
-    anchors: &[u16],
+    ranks: &[u32],
     entries: &mut [u64],
 )
     requires { let g = netOf (now links) (now parents) search in
-        ⌜ ((asked : List ℕ) × Searching g asked (now survey) (now anchors) (now entries)) ⌝ }
+        ⌜ ((asked : List ℕ) × Searching g asked (now survey) (now ranks) (now entries)) ⌝ }
     ensures { λ _.
         let g = netOf (now (links .entry)) (now (parents .entry)) search in
         let row = now (entries .entry) in
         ⌜ ((asked : List ℕ)
-        → Searching g asked (now (survey .entry)) (now (anchors .entry)) row
+        → Searching g asked (now (survey .entry)) (now (ranks .entry)) row
         → LinkedTo g (g .nodes) asked (linksIn (now (links .entry))) row (now (entries .exit))) ⌝ }
 {
     let m = network::links_in(links);
     let mut e = 0;
     while e < m {
-        offer_link(links, parents, search, survey, anchors, entries, e);
+        offer_link(links, parents, search, survey, ranks, entries, e);
         e += 1;
     }
 }
 
-// The anchor of x where x is asked for, and that of no node where x is the root and is not; 0 elsewhere.
-fn first_anchor(asked: &[u64], root: usize, x: usize) -> u16
-    requires { ⌜ x < nodeLimit ⌝ }
-    ensures { λ r. ⌜ r ≡ firstAnchor (now (asked .entry)) root x ⌝ }
+// The first rank of x: its own where x is asked for, that of no node where x is the root and is not; 0 elsewhere.
+fn first_rank(survey: &[u64], asked: &[u64], root: usize, x: usize) -> u32
+    requires { ⌜ Weighed (now survey) x ⌝ }
+    ensures { λ r. ⌜ r ≡ firstRank (now (survey .entry)) (now (asked .entry)) root x ⌝ }
 {
     if rows::wide_at(asked, x) != 0 {
-        return x as u16 + 1;
+        return own_rank(survey, x);
     }
     if x == root {
-        return Edition::NO_NODE;
+        return Edition::NO_NODE as u32 * STEP;
     }
     0
 }
 
-// The first anchors of n nodes.
-fn mark_anchors(asked: &[u64], root: usize, n: usize, anchors: &mut [u16])
-    requires { ⌜ (n ≤ nodeLimit) × (n ≤ length (now anchors)) ⌝ }
-    ensures { λ _. ⌜ now (anchors .exit) ≡ rowWith (firstAnchor (now (asked .entry)) root) n (now (anchors .entry)) ⌝ }
+// The first ranks of n nodes.
+fn mark_ranks(survey: &[u64], asked: &[u64], root: usize, n: usize, ranks: &mut [u32])
+    requires { ⌜ ((x : ℕ) → x < n → Weighed (now survey) x) × (n ≤ length (now ranks)) ⌝ }
+    ensures { λ _.
+        let first = firstRank (now (survey .entry)) (now (asked .entry)) root in
+        ⌜ now (ranks .exit) ≡ rowWith first n (now (ranks .entry)) ⌝ }
 {
     let mut x = 0;
     while x < n {
-        anchors[x] = first_anchor(asked, root, x);
+        ranks[x] = first_rank(survey, asked, root, x);
         x += 1;
     }
 }
 
-// The anchor of u: that of the first node up from it that has one.
-fn find_anchor(survey: &[u64], anchors: &[u16], u: usize) -> u16
-    requires { ⌜ ((g : Net) × (asked : List ℕ) × Upward g asked (now survey) (now anchors) u) ⌝ }
+// The rank of u: that of the first node up from it that has one.
+fn find_rank(survey: &[u64], ranks: &[u32], u: usize) -> u32
+    requires { ⌜ ((g : Net) × (asked : List ℕ) × Upward g asked (now survey) (now ranks) u) ⌝ }
     ensures { λ r.
         ⌜ ((g : Net) (asked : List ℕ)
-        → Upward g asked (now (survey .entry)) (now (anchors .entry)) u
-        → r ≡ anchor (treeOf g) asked u) ⌝ }
+        → Upward g asked (now (survey .entry)) (now (ranks .entry)) u
+        → r ≡ rank (treeOf g) asked u) ⌝ }
 {
     let mut c = u;
-    while anchors[c] == 0 {
+    while ranks[c] == 0 {
         let k = survey::known_at(survey, c);
         c = k.up as usize;
     }
-    anchors[c]
+    ranks[c]
 }
 
-// Writes the anchor of u to u and every node up from it that has none yet.
-fn join_up(survey: &[u64], anchors: &mut [u16], u: usize, a: u16)
-    requires { ⌜ ((g : Net) × (asked : List ℕ) × Upward g asked (now survey) (now anchors) u × (a ≡ anchor (treeOf g) asked u)) ⌝ }
+// Writes the rank of u to u and every node up from it that has none yet.
+fn join_up(survey: &[u64], ranks: &mut [u32], u: usize, a: u32)
+    requires { ⌜ ((g : Net) × (asked : List ℕ) × Upward g asked (now survey) (now ranks) u × (a ≡ rank (treeOf g) asked u)) ⌝ }
     ensures { λ _.
-        let row = now (anchors .entry) in
+        let row = now (ranks .entry) in
         ⌜ ((g : Net) (asked : List ℕ)
         → Upward g asked (now (survey .entry)) row u
-        → a ≡ anchor (treeOf g) asked u
-        → Joined g asked (now (survey .entry)) u row (now (anchors .exit))) ⌝ }
+        → a ≡ rank (treeOf g) asked u
+        → Joined g asked (now (survey .entry)) u row (now (ranks .exit))) ⌝ }
 {
     let mut c = u;
-    while anchors[c] == 0 {
-        anchors[c] = a;
+    while ranks[c] == 0 {
+        ranks[c] = a;
         let k = survey::known_at(survey, c);
         c = k.up as usize;
     }
 }
 
-// The anchor of every node, from the first ones. Each node is written once.
-fn join_anchors(survey: &[u64], n: usize, anchors: &mut [u16])
-    requires { ⌜ ((g : Net) × (asked : List ℕ) × Partly g asked (now survey) (now anchors) × (g .nodes ≡ n)) ⌝ }
+// The rank of every node, from the first ones. Each node is written once.
+fn join_ranks(survey: &[u64], n: usize, ranks: &mut [u32])
+    requires { ⌜ ((g : Net) × (asked : List ℕ) × Partly g asked (now survey) (now ranks) × (g .nodes ≡ n)) ⌝ }
     ensures { λ _.
         ⌜ ((g : Net) (asked : List ℕ)
-        → Partly g asked (now (survey .entry)) (now (anchors .entry))
+        → Partly g asked (now (survey .entry)) (now (ranks .entry))
         → g .nodes ≡ n
-        → Anchored (treeOf g) asked (now (anchors .exit))) ⌝ }
+        → Ranked (treeOf g) asked (now (ranks .exit))) ⌝ }
 {
     let mut u = 0;
     while u < n {
-        let a = find_anchor(survey, anchors, u);
-        join_up(survey, anchors, u, a);
+        let a = find_rank(survey, ranks, u);
+        join_up(survey, ranks, u, a);
         u += 1;
     }
 }
 
-// The anchor of every node: the first node on its route that is asked for, plus 1.
-fn fill_anchors(survey: &[u64], asked: &[u64], root: usize, n: usize, anchors: &mut [u16])
-    requires { ⌜ ((g : Net) × Anchoring g (now survey) root n (now anchors)) ⌝ }
+// The rank of every node: that of its anchor, the first node on its route that is asked for.
+fn fill_ranks(survey: &[u64], asked: &[u64], root: usize, n: usize, ranks: &mut [u32])
+    requires { ⌜ ((g : Net) × Ranking g (now survey) root n (now ranks)) ⌝ }
     ensures { λ _.
         ⌜ ((g : Net)
-        → Anchoring g (now (survey .entry)) root n (now (anchors .entry))
-        → Anchored (treeOf g) (now (asked .entry)) (now (anchors .exit))) ⌝ }
+        → Ranking g (now (survey .entry)) root n (now (ranks .entry))
+        → Ranked (treeOf g) (now (asked .entry)) (now (ranks .exit))) ⌝ }
 {
-    mark_anchors(asked, root, n, anchors);
-    join_anchors(survey, n, anchors);
+    mark_ranks(survey, asked, root, n, ranks);
+    join_ranks(survey, n, ranks);
 }
 
 // The entries of the nodes asked for afresh, by a survey of a sound network; all others, and what lies past the entries, stay.
@@ -544,16 +565,16 @@ fn search_asked(
         let g = netOf (now (links .entry)) (now (parents .entry)) search in
         ⌜ Entries (length (now (parents .entry))) (freshAt g (now (asked .entry)) (now (entries .entry))) (now (entries .entry)) (now (entries .exit)) ⌝ }
 {
-    let mut anchors = [0u16; Memory::NODES];
-    fill_anchors(
+    let mut ranks = [0u32; Memory::NODES];
+    fill_ranks(
         survey,
         asked,
         search.root as usize,
         parents.len(),
-        &mut anchors,
+        &mut ranks,
     );
     clear_asked(parents, search, asked, entries);
-    offer_links(links, parents, search, survey, &anchors, entries);
+    offer_links(links, parents, search, survey, &ranks, entries);
 }
 
 // The entries of the nodes asked for afresh, by a survey of the network, which is sound; all others, and what lies past the

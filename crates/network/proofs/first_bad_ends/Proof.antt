@@ -1,18 +1,19 @@
 -- `network::first_bad_ends` meets its contract. Assumes nothing.
-use Rattle.rows.proofs.Seeking.{Seeking, seek-start, seek-more, seek-done}
+use Rattle.rows.proofs.Seeking.{Seeking, seek-start, seek-past, seek-here, seek-done}
 use mathlib.Core.Path.{_∙_, ap}
 use Prim.Native.Nat.{_-_}
 use Rattle.network.specs.Records.{badEnds}
 use Rattle.network.specs.Network.{linkIn, linksIn}
+use Rattle.edition.specs.declared.Found.the-variants.{Nothing}
 use borrow.Author.Needs.{needs}
 use Rattle.network.proofs.first_bad_ends.Statement.{statement}
 use Rattle.network.proofs.first_bad_ends.Tie as tie
 
 abbrev Inv-loop : tie.InvT-loop
-Inv-loop links n found₀ e₀ found e = Seeking (λ e. badEnds n (linkIn links e)) (linksIn links) e found
+Inv-loop links n e₀ e = Seeking (λ e. badEnds n (linkIn links e)) (linksIn links) e Nothing
 
 abbrev μ-loop : tie.MeasureT-loop
-μ-loop links n found₀ e₀ found e = (linksIn links) - e
+μ-loop links n e₀ e = (linksIn links) - e
 
 loop-holds : tie.Need-loop-holds Inv-loop μ-loop
 loop-holds c = seek-start _ _
@@ -23,8 +24,13 @@ link-at-requires c κs = search needs
 bad-ends-requires : tie.Need-bad-ends-requires Inv-loop μ-loop
 bad-ends-requires c κs = search needs
 
-or-here-requires : tie.Need-or-here-requires Inv-loop μ-loop
-or-here-requires c κs = search needs
+returns : tie.Need-returns Inv-loop μ-loop
+returns c =
+    let bad-ends = c .before .bad-ends in
+    let link-at = c .before .before .link-at in
+    let loop-test = c .before .before .before .loop-test in
+    let loop = c .before .before .before .before .loop in
+    seek-here _ _ _ (loop .inv) (loop-test .taken) _ (bad-ends .ensures ∙ ap (badEnds _) (link-at .ensures)) (c .if1 .taken)
 
 add-e : tie.Need-add-e Inv-loop μ-loop
 add-e c = search needs
@@ -34,13 +40,14 @@ loop-less c = search needs
 
 loop-again : tie.Need-loop-again Inv-loop μ-loop
 loop-again c =
+    let bad-ends = c .before .bad-ends in
+    let link-at = c .before .before .link-at in
     let loop-test = c .before .before .before .loop-test in
     let loop = c .before .before .before .before .loop in
-    seek-more _ _ _ _ (loop .inv) (loop-test .taken) _ (c .before .bad-ends .ensures ∙ ap (badEnds _) (c .before .before .link-at .ensures)) _
-    (c .or-here .ensures)
+    seek-past _ _ _ (loop .inv) (loop-test .taken) _ (bad-ends .ensures ∙ ap (badEnds _) (link-at .ensures)) (c .if1 .left)
 
-returns : tie.Need-returns Inv-loop μ-loop
-returns c = seek-done _ _ _ _ (c .before .loop .inv) (c .loop-test .left)
+returns-2 : tie.Need-returns-2 Inv-loop μ-loop
+returns-2 c = seek-done _ _ _ _ (c .before .loop .inv) (c .loop-test .left)
 
 pub first-bad-ends-spec : {M : Type 1} → statement M
 first-bad-ends-spec =
@@ -51,8 +58,8 @@ first-bad-ends-spec =
     loop-holds
     link-at-requires
     bad-ends-requires
-    or-here-requires
+    returns
     add-e
     loop-less
     loop-again
-    returns)
+    returns-2)

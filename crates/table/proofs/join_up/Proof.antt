@@ -1,6 +1,6 @@
 -- `table::join_up` meets its contract. Assumes nothing.
 use Rattle.table.proofs.Joining.{room-up, here-low, here-there, here-few, climbs, Writing, writing-start, writing-more, writing-end}
-use Rattle.table.specs.Work.{Upward, anchor}
+use Rattle.table.specs.Work.{Upward, rank}
 use Rattle.tree.specs.Tree.{treeOf}
 use Rattle.network.specs.Network.{Net}
 use mathlib.Core.List.{List}
@@ -11,11 +11,11 @@ use Rattle.table.proofs.join_up.Statement.{statement}
 use Rattle.table.proofs.join_up.Tie as tie
 
 abbrev Inv-loop : tie.InvT-loop
-Inv-loop survey anchors₀ u a c₀ anchors c =
-    (g : Net) (asked : List ℕ) → Upward g asked survey anchors₀ u → a ≡ anchor (treeOf g) asked u → Writing g asked survey u anchors₀ c anchors
+Inv-loop survey ranks₀ u a c₀ ranks c =
+    (g : Net) (asked : List ℕ) → Upward g asked survey ranks₀ u → a ≡ rank (treeOf g) asked u → Writing g asked survey u ranks₀ c ranks
 
 abbrev μ-loop : tie.MeasureT-loop
-μ-loop survey anchors₀ u a c₀ anchors c =
+μ-loop survey ranks₀ u a c₀ ranks c =
     room-up survey c
 
 loop-holds : tie.Need-loop-holds Inv-loop μ-loop
@@ -31,14 +31,14 @@ slice-read-if1 c =
     let pre = c .before .before .before .before .pre in
     let i = c .before .loop .inv _ _ (pre .2) (pre .3) in here-low (i .partly) (i .low)
 
-mul-anchors : tie.Need-mul-anchors Inv-loop μ-loop
-mul-anchors c =
+mul-ranks : tie.Need-mul-ranks Inv-loop μ-loop
+mul-ranks c =
     let loop = c .before .before .loop in
     let pre = c .before .before .before .before .before .pre in
     let i = loop .inv _ _ (pre .2) (pre .3) in omega (arith, here-few (i .partly) (i .low))
 
-slice-write-anchors : tie.Need-slice-write-anchors Inv-loop μ-loop
-slice-write-anchors c =
+slice-write-ranks : tie.Need-slice-write-ranks Inv-loop μ-loop
+slice-write-ranks c =
     let loop = c .before .before .loop in
     let pre = c .before .before .before .before .before .pre in
     let i = loop .inv _ _ (pre .2) (pre .3) in here-low (i .partly) (i .low)
@@ -80,8 +80,8 @@ join-up-spec =
     loop-holds
     mul-if1
     slice-read-if1
-    mul-anchors
-    slice-write-anchors
+    mul-ranks
+    slice-write-ranks
     known-at-requires
     loop-less
     loop-again

@@ -1,5 +1,5 @@
 -- `table::offer_link` meets its contract. Assumes nothing.
-use Rattle.table.proofs.Skipping.{skip-idle, skip-first, skip-second, skip-anchored, first-anchored, second-anchored}
+use Rattle.table.proofs.Skipping.{skip-idle, skip-first, skip-second, skip-ranked, first-ranked, second-ranked}
 use Rattle.table.proofs.Skipping.{first-starts, second-starts, k-fits, climbing}
 use borrow.Author.Tests.{not-true, not-false}
 use native.Mathlib.Omega.{arith}
@@ -57,7 +57,7 @@ shared-slice-read-if4 c =
     let link-at = c .before .before .before .before .before .before .before .before .before .link-at in
     let pre = c .before .before .before .before .before .before .before .before .before .before .before .before .before .before .before .pre in
     let args = c .before .before .before .before .before .before .before .before .before .before .before .before .before .before .before .args in
-    first-anchored _ _ _ (pre .1 .surveyed) (pre .2) (link-at .ensures) _ (args .entries .now) (pre .1 .anchored)
+    first-ranked _ _ _ (pre .1 .surveyed) (pre .2) (link-at .ensures) _ (args .entries .now) (pre .1 .ranked)
 
 mul-if4-2 : tie.Need-mul-if4-2
 mul-if4-2 c = search needs
@@ -67,13 +67,13 @@ shared-slice-read-if4-2 c =
     let link-at = c .before .before .before .before .before .before .before .before .before .before .link-at in
     let pre = c .before .before .before .before .before .before .before .before .before .before .before .before .before .before .before .before .pre in
     let args = c .before .before .before .before .before .before .before .before .before .before .before .before .before .before .before .before .args in
-    second-anchored _ _ _ (pre .1 .surveyed) (pre .2) (link-at .ensures) _ (args .entries .now) (pre .1 .anchored)
+    second-ranked _ _ _ (pre .1 .surveyed) (pre .2) (link-at .ensures) _ (args .entries .now) (pre .1 .ranked)
 
 returns-4 : tie.Need-returns-4
 returns-4 c =
     let link-at = c .before .before .before .before .before .before .before .before .before .before .before .link-at in
     let pre = c .before .before .before .before .before .before .before .before .before .before .before .before .before .before .before .before .before .pre in
-    λ asked h. skip-anchored _ _ _ (h .surveyed) (pre .2) (link-at .ensures) asked _ (h .anchored) (c .if4 .taken)
+    λ asked h. skip-ranked _ _ _ (h .surveyed) (pre .2) (link-at .ensures) asked _ (h .ranked) (c .if4 .taken)
 
 begin-side-requires : tie.Need-begin-side-requires
 begin-side-requires c κs =

@@ -10,14 +10,14 @@ use Rattle.table.proofs.offer_links.Statement.{statement}
 use Rattle.table.proofs.offer_links.Tie as tie
 
 abbrev Inv-loop : tie.InvT-loop
-Inv-loop links parents search survey anchors entries₀ m e₀ entries e =
+Inv-loop links parents search survey ranks entries₀ m e₀ entries e =
     ((asked : List ℕ)
-    → Searching (netOf links parents search) asked survey anchors entries₀
+    → Searching (netOf links parents search) asked survey ranks entries₀
     → LinkedTo (netOf links parents search) (netOf links parents search .nodes) asked e entries₀ entries)
     × (e ≤ linksIn links)
 
 abbrev μ-loop : tie.MeasureT-loop
-μ-loop links parents search survey anchors entries₀ m e₀ entries e =
+μ-loop links parents search survey ranks entries₀ m e₀ entries e =
     linksIn links - e
 
 links-in-requires : tie.Need-links-in-requires Inv-loop μ-loop

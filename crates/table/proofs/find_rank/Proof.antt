@@ -1,19 +1,19 @@
--- `table::find_anchor` meets its contract. Assumes nothing.
+-- `table::find_rank` meets its contract. Assumes nothing.
 use Rattle.table.proofs.Joining.{room-up, here-low, here-there, here-few, climbs, Looking, looking-start, looking-more, looking-end}
 use Rattle.table.specs.Work.{Upward}
 use Rattle.network.specs.Network.{Net}
 use mathlib.Core.List.{List}
 use Prim.Native.Nat.{ℕ}
 use native.Mathlib.Omega.{arith}
-use Rattle.table.proofs.find_anchor.Statement.{statement}
-use Rattle.table.proofs.find_anchor.Tie as tie
+use Rattle.table.proofs.find_rank.Statement.{statement}
+use Rattle.table.proofs.find_rank.Tie as tie
 
 abbrev Inv-loop : tie.InvT-loop
-Inv-loop survey anchors u c₀ c =
-    (g : Net) (asked : List ℕ) → Upward g asked survey anchors u → Looking g asked u c
+Inv-loop survey ranks u c₀ c =
+    (g : Net) (asked : List ℕ) → Upward g asked survey ranks u → Looking g asked u c
 
 abbrev μ-loop : tie.MeasureT-loop
-μ-loop survey anchors u c₀ c =
+μ-loop survey ranks u c₀ c =
     room-up survey c
 
 loop-holds : tie.Need-loop-holds Inv-loop μ-loop
@@ -63,8 +63,8 @@ returns c =
     let loop = c .before .before .before .loop in
     λ g asked h. looking-end h (loop .inv g asked h) (c .before .if1 .left)
 
-pub find-anchor-spec : {M : Type 1} → statement M
-find-anchor-spec =
+pub find-rank-spec : {M : Type 1} → statement M
+find-rank-spec =
     tie.close
     (tie.spec
     Inv-loop
