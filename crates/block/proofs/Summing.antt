@@ -2,19 +2,19 @@
 use mathlib.Core.Path.{_≡_, refl, sym, ap, subst, _∙_}
 use mathlib.Core.Bool.{Bool, true, false}
 use mathlib.Core.List.{List, [], _∷_, _++_}
-use Prim.Native.Nat.{ℕ, _+_, _-_, _/_, _<_, _≤_}
+use Prim.Native.Nat.{ℕ, zero, suc, _+_, _*_, _-_, _/_, _%_, _<_, _≤_}
 use native.Mathlib.Numerals.{add-one}
 use native.Mathlib.Omega.{arith}
 use lib.Dec.{eqb, ltb}
 use lib.ListN.{length, getD, take, drop, length-append, length-drop, List·getD-append}
 use lib.Seq.{drop-cons, length-take-le, getD-take, getD-drop}
-use borrow.Author.Tests.{eqb-true, eqb-false, ltb-true, ltb-false}
+use borrow.Author.Tests.{eqb-true, eqb-false, ltb-true, ltb-false, ne-eqb, lt-ltb, le-ltb}
 use Rattle.edition.specs.Stored.{blockBytes, frontBytes}
 use Rattle.numbers.specs.Bytes.{numberIn, wordMost}
 use Rattle.numbers.proofs.Getting.{number-two}
 use Rattle.block.specs.Bytes.{onesAdd, onesSum, checksum}
 use Rattle.block.specs.Block.{checkOf}
-use Rattle.block.specs.Work.{blockWords, blanked, wordOf}
+use Rattle.block.specs.Work.{blockWords, blanked, wordOf, foldedSum}
 
 module _ (b : List ℕ) (l : length b ≡ blockBytes) where
   -- the first six bytes, one by one
@@ -76,24 +76,57 @@ module _ (b : List ℕ) (l : length b ≡ blockBytes) where
           rw e
           (omega (arith, number-two b (k + k), number-two (blanked b) (k + k), blank-high (k + k) (omega arith), blank-high (k + k + 1) (omega arith)))
 
--- what the loop keeps: the sum of the first k words
+fold-some : (t : ℕ) → 0 < t → foldedSum t ≡ (t - 1) % wordMost + 1
+unfolding foldedSum
+fold-some t h = rw (ne-eqb t 0 (omega arith)) refl
+
+add-low : (a w : ℕ) → a + w ≤ wordMost → onesAdd a w ≡ a + w
+unfolding onesAdd
+add-low a w h = rw (le-ltb wordMost (a + w) h) refl
+
+add-high : (a w : ℕ) → wordMost < a + w → onesAdd a w ≡ a + w - wordMost
+unfolding onesAdd
+add-high a w h = rw (lt-ltb wordMost (a + w) h) refl
+
+-- a word added after the carries are added in, or before: the same
+fold-more : (t w : ℕ) → w ≤ wordMost → onesAdd (foldedSum t) w ≡ foldedSum (t + w)
+unfolding foldedSum
+fold-more zero zero h = add-low 0 0 h
+fold-more zero (suc w) h = omega (arith, add-low 0 (suc w) (omega (arith, h)), fold-some (0 + suc w) (omega arith))
+fold-more (suc t) w h = go (ltb wordMost (foldedSum (suc t) + w)) refl
+  where
+    go : (s : Bool) → ltb wordMost (foldedSum (suc t) + w) ≡ s → onesAdd (foldedSum (suc t)) w ≡ foldedSum (suc t + w)
+    go true e =
+        let far = ltb-true wordMost (foldedSum (suc t) + w) e in
+        omega
+        (arith, far, add-high (foldedSum (suc t)) w far, fold-some (suc t) (omega arith), fold-some (suc t + w) (omega arith))
+    go false e =
+        let near = ltb-false wordMost (foldedSum (suc t) + w) e in
+        omega
+        (arith, near, add-low (foldedSum (suc t)) w near, fold-some (suc t) (omega arith), fold-some (suc t + w) (omega arith))
+
+-- what the loop keeps: a plain sum of the first k words
 pub record Summing (b : List ℕ) (sum k : ℕ) : Type 0 where
   pub low : k ≤ blockWords
-  pub most : sum ≤ wordMost
-  pub is : sum ≡ onesSum (blanked b) k
+  pub most : sum ≤ k * wordMost
+  pub is : foldedSum sum ≡ onesSum (blanked b) k
 
 pub sum-start : (b : List ℕ) → Summing b 0 0
-unfolding onesSum
+unfolding onesSum foldedSum
 sum-start b = record { low = omega arith; most = omega arith; is = refl }
 
 module _ (b : List ℕ) (l : length b ≡ blockBytes) (sum k : ℕ) (s : Summing b sum k) where
-  pub sum-more : k < blockWords → (w : ℕ) → w ≡ wordOf b k → (t : ℕ) → t ≡ onesAdd sum w → t ≤ wordMost → Summing b t (k + 1)
+  pub sum-more : k < blockWords → (w : ℕ) → w ≡ wordOf b k → w ≤ wordMost → Summing b (sum + w) (k + 1)
   unfolding onesSum
-  sum-more h w p t q m =
-      record { low = omega arith; most = m; is = q ∙ rw (add-one k, s .is, p ∙ word-is b l k h) }
+  sum-more h w p m =
+      record {
+        low = omega arith;
+        most = omega (arith, s .most);
+        is = sym (fold-more sum w m) ∙ rw (add-one k, s .is, p ∙ word-is b l k h);
+      }
 
-  pub sum-end : blockWords ≤ k → wordMost - sum ≡ checkOf b
+  pub sum-end : blockWords ≤ k → (f : ℕ) → f ≡ foldedSum sum → wordMost - f ≡ checkOf b
   unfolding checkOf checksum blanked
-  sum-end h =
+  sum-end h f p =
       let q : k ≡ length (blanked b) / 2 = omega (arith, s .low, blank-length b l) in
-      ap (λ (n : ℕ). wordMost - n) (s .is ∙ ap (onesSum (blanked b)) q)
+      ap (λ (n : ℕ). wordMost - n) (p ∙ (s .is ∙ ap (onesSum (blanked b)) q))

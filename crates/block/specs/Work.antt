@@ -1,13 +1,13 @@
 -- What private functions of this crate promise each other. No public promise cites this page. Assumes nothing.
 use mathlib.Core.Bool.{Bool, cond, not}
 use mathlib.Core.List.{List, _∷_, _++_}
-use Prim.Native.Nat.{ℕ, _+_, _/_}
+use Prim.Native.Nat.{ℕ, _+_, _-_, _/_, _%_}
 use lib.Dec.{eqb}
 use lib.ListN.{take, drop, replicate}
 use lib.Seq.{paste, sets}
 use Rattle.edition.specs.Stored.{blockBytes, frontBytes}
 use Rattle.rows.specs.Lists.{same}
-use Rattle.numbers.specs.Bytes.{numberIn}
+use Rattle.numbers.specs.Bytes.{numberIn, wordMost}
 use Rattle.block.specs.Block.{front}
 
 -- how many 16-bit words a block has
@@ -21,6 +21,10 @@ blanked b = take 6 b ++ 0 ∷ 0 ∷ drop frontBytes b
 -- word k of a block whose word 3 counts as 0
 unfoldable pub wordOf : List ℕ → ℕ → ℕ
 wordOf b k = cond (eqb k 3) 0 (numberIn b (k + k) 2)
+
+-- a plain sum of words, with what is carried out of 16 bits added in again
+unfoldable pub foldedSum : ℕ → ℕ
+foldedSum sum = cond (eqb sum 0) 0 ((sum - 1) % wordMost + 1)
 
 -- is the front another than the one asked?
 unfoldable pub badFront : ℕ → ℕ → ℕ → List ℕ → Bool

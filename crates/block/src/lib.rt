@@ -5,10 +5,10 @@ ghost use Prim.Native.Nat.{_+_, _*_, _<_, _≤_};
 ghost use lib.ListN.{length};
 ghost use Rattle.edition.specs.Stored.{blockBytes, frontBytes, entryBytes};
 ghost use Rattle.rows.specs.Count.{someTo};
-ghost use Rattle.block.specs.Bytes.{onesAdd, dirty};
+ghost use Rattle.block.specs.Bytes.{dirty};
 ghost use Rattle.block.specs.Block.{capacity, recordBytes, checkOf, dirtyEntry, badFiller, noSuchBlock, badBlock, blockVerdict};
 ghost use Rattle.block.specs.Block.{payload as payloadOf, payloadPlace, sealed};
-ghost use Rattle.block.specs.Work.{blockWords, wordOf, badFront, withFront, cleared};
+ghost use Rattle.block.specs.Work.{blockWords, wordOf, foldedSum, badFront, withFront, cleared};
 use edition::Edition;
 use edition::Refusal;
 use edition::Verdict;
@@ -31,16 +31,15 @@ const FIRST_ZERO: usize = 3;
 
 const LAST_ZEROS: usize = 10;
 
-// The sum of two words, the carry added in again.
-fn ones_add(a: u16, b: u16) -> u16
-    ensures { λ r. ⌜ r ≡ onesAdd a b ⌝ }
+// The sum of words, with what is carried out of 16 bits added in again.
+fn folded(sum: u32) -> u16
+    ensures { λ r. ⌜ r ≡ foldedSum sum ⌝ }
 {
-    let sum = a as u32 + b as u32;
-    let most = Edition::WORD_MOST as u32;
-    if most < sum {
-        return (sum - most) as u16;
+    if sum == 0 {
+        return 0;
     }
-    sum as u16
+    let most = Edition::WORD_MOST as u32;
+    ((sum - 1) % most + 1) as u16
 }
 
 // Word k of a block; the word of the check counts as 0.
@@ -62,10 +61,10 @@ fn check_of(b: &[u8]) -> u16
     let mut sum = 0;
     let mut k = 0;
     while k < WORDS {
-        sum = ones_add(sum, word_at(b, k));
+        sum += word_at(b, k) as u32;
         k += 1;
     }
-    Edition::WORD_MOST - sum
+    Edition::WORD_MOST - folded(sum)
 }
 
 // How many records a block of a kind holds; 0 where the kind is none of the three.

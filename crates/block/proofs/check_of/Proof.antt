@@ -1,5 +1,4 @@
 -- `block::check_of` meets its contract. Assumes nothing.
-use native.Mathlib.Omega.{arith}
 use Prim.Native.Nat.{_-_}
 use Rattle.block.specs.Work.{blockWords}
 use Rattle.block.proofs.Summing.{Summing, sum-start, sum-more, sum-end}
@@ -19,8 +18,11 @@ loop-holds c = sum-start _
 word-at-requires : tie.Need-word-at-requires Inv-loop μ-loop
 word-at-requires c κs = search needs
 
-ones-add-requires : tie.Need-ones-add-requires Inv-loop μ-loop
-ones-add-requires c κs = search needs
+cast-sum : tie.Need-cast-sum Inv-loop μ-loop
+cast-sum c = search needs
+
+add-sum : tie.Need-add-sum Inv-loop μ-loop
+add-sum c = search needs
 
 add-k : tie.Need-add-k Inv-loop μ-loop
 add-k c = search needs
@@ -30,15 +32,20 @@ loop-less c = search needs
 
 loop-again : tie.Need-loop-again Inv-loop μ-loop
 loop-again c =
-    let loop = c .before .before .before .loop in
-    let pre = c .before .before .before .before .before .pre in
-    sum-more _ (pre) _ _ (loop .inv) (c .before .before .loop-test .taken) _ (c .before .word-at .ensures) _ (c .ones-add .ensures) (search needs)
+    let loop = c .before .before .loop in
+    let pre = c .before .before .before .before .pre in
+    sum-more _ pre _ _ (loop .inv) (c .before .loop-test .taken) _ (c .word-at .ensures) (search needs)
+
+folded-requires : tie.Need-folded-requires Inv-loop μ-loop
+folded-requires c κs = search needs
 
 sub-result : tie.Need-sub-result Inv-loop μ-loop
-sub-result c = omega (arith, c .before .loop .inv .most)
+sub-result c = search needs
 
 returns : tie.Need-returns Inv-loop μ-loop
-returns c = sum-end _ (c .before .before .before .pre) _ _ (c .before .loop .inv) (c .loop-test .left)
+returns c =
+    let pre = c .before .before .before .before .pre in
+    sum-end _ pre _ _ (c .before .before .loop .inv) (c .before .loop-test .left) _ (c .folded .ensures)
 
 pub check-of-spec : {M : Type 1} → statement M
 check-of-spec =
@@ -48,9 +55,11 @@ check-of-spec =
     μ-loop
     loop-holds
     word-at-requires
-    ones-add-requires
+    cast-sum
+    add-sum
     add-k
     loop-less
     loop-again
+    folded-requires
     sub-result
     returns)
