@@ -5,6 +5,7 @@
 #include <string.h>
 
 enum { ROOT, SWAP, NONE, BRIDGE };
+enum { FIRST_END, SECOND_END };
 enum { BLOCK = 512, FILE_BYTES = 63 * BLOCK };
 
 // Works out all entries and answers 1, or answers 0 where the network is refused.

@@ -127,6 +127,7 @@ static void search(const struct network *net, const struct tree *tree, size_t x,
             if (entry[0] != SWAP || cost[k] < entry[4 + k]) {
                 entry[1 + k] = e;
                 entry[4 + k] = cost[k];
+                entry[7 + k] = inside[l.first] ? FIRST_END : SECOND_END;
             }
         entry[0] = SWAP;
     }

@@ -5,7 +5,7 @@
 #include <stdint.h>
 #include <stdio.h>
 
-enum { NODES = 512, LINKS = 2048, DEPTH = 510, ENTRY = 7, MARK = 65535, HEAD = 5, WORDS = HEAD + NODES + 4 * LINKS + 1 };
+enum { NODES = 512, LINKS = 2048, DEPTH = 510, ENTRY = 10, MARK = 65535, HEAD = 5, WORDS = HEAD + NODES + 4 * LINKS + 1 };
 enum { TABLE_JOB, CHANGE_JOB, WRITE_JOB, READ_JOB };
 
 struct link {

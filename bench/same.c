@@ -131,31 +131,32 @@ static int survey_network(const struct network *net, struct known *survey)
     return 1;
 }
 
-// A climb from the lower end of a link: what is known of that end, and the largest tree distance from it to a node below where
-// the climb is.
+// A climb from the lower end of a link: which end that is, what is known of it, and the largest tree distance from it to a node
+// below where the climb is.
 struct side {
     size_t node, hops;
-    uint64_t near, turn, reach;
+    uint64_t lower, near, turn, reach;
 };
 
-HOT struct side begin_side(const struct known *survey, size_t z)
+HOT struct side begin_side(const struct known *survey, size_t z, uint64_t lower)
 {
-    return (struct side){z, 0, survey[z].near, survey[z].turn, survey[z].deep - survey[z].near};
+    return (struct side){z, 0, lower, survey[z].near, survey[z].turn, survey[z].deep - survey[z].near};
 }
 
 HOT struct side step_side(const struct known *survey, struct side s)
 {
     const struct known *x = survey + s.node, *p = survey + x->up;
     uint64_t way = (s.near - p->near) + (x->beside - p->near);
-    return (struct side){x->up, s.hops + 1, s.near, s.turn, larger(s.reach, way)};
+    return (struct side){x->up, s.hops + 1, s.lower, s.near, s.turn, larger(s.reach, way)};
 }
 
-// The better of a swap link, where there is one yet, and a candidate, kept in the entry.
-HOT void keep(uint64_t *link, uint64_t *cost, int had, uint64_t e, uint64_t price)
+// The better of a swap link under measure k, where there is one yet, and a candidate, kept in the entry.
+HOT void keep(uint64_t *entry, size_t k, int had, uint64_t e, uint64_t price, uint64_t lower)
 {
-    if (!had || price < *cost) {
-        *link = e;
-        *cost = price;
+    if (!had || price < entry[4 + k]) {
+        entry[1 + k] = e;
+        entry[4 + k] = price;
+        entry[7 + k] = lower;
     }
 }
 
@@ -185,9 +186,9 @@ HOT void offer_at(const struct network *net, const struct known *survey, const u
         return;
     }
     entry[0] = SWAP;
-    keep(&entry[1], &entry[4], had, e, sum);
-    keep(&entry[2], &entry[5], had, e, incr);
-    keep(&entry[3], &entry[6], had, e, max);
+    keep(entry, 0, had, e, sum, s.lower);
+    keep(entry, 1, had, e, incr, s.lower);
+    keep(entry, 2, had, e, max, s.lower);
 }
 
 // Offers link e to every node asked for that it crosses, by a climb from each end up to where both have the same rank. The one
@@ -198,7 +199,7 @@ static void offer_link(const struct network *net, const struct known *survey, co
     if (l.mark != 1 || net->parents[l.first] == e || net->parents[l.second] == e || ranks[l.first] == ranks[l.second])
         return;
     uint64_t k = survey[l.first].near + l.length + survey[l.second].near;
-    struct side a = begin_side(survey, l.first), b = begin_side(survey, l.second);
+    struct side a = begin_side(survey, l.first, FIRST_END), b = begin_side(survey, l.second, SECOND_END);
     while (ranks[a.node] != ranks[b.node]) {
         if (ranks[b.node] / STEP < ranks[a.node] / STEP) {
             offer_at(net, survey, ranks, entries, b, e, k);
@@ -218,7 +219,7 @@ static void refresh(const struct network *net, const struct known *survey, const
             uint64_t *entry = entries + x * ENTRY;
             entry[0] = x == net->root ? ROOT : BRIDGE;
             entry[1] = entry[2] = entry[3] = MARK;
-            entry[4] = entry[5] = entry[6] = 0;
+            entry[4] = entry[5] = entry[6] = entry[7] = entry[8] = entry[9] = 0;
         }
     for (size_t e = 0; e < net->m; e++)
         offer_link(net, survey, ranks, entries, e);

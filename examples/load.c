@@ -1,7 +1,8 @@
 /*
- * load FILE MEASURE: prints what a router loads from a stored file, a line for each node but the root. MEASURE is sum,
- * incr or max. A file that is refused prints `FILE: refused N P` on standard error and ends with 1; a call that is none,
- * or a file that cannot be read, ends with 2.
+ * load FILE MEASURE: prints what a router loads from a stored file, a line for each node but the root. A swap link has its
+ * two ends in the order of crossing, from the one that is cut off to the other. MEASURE is sum, incr or max. A file that is
+ * refused prints `FILE: refused N P` on standard error and ends with 1; a call that is none, a file that cannot be read, or
+ * lines that cannot be printed, end with 2.
  */
 #include "doeragyeol.h"
 
@@ -15,16 +16,23 @@ static uint16_t parents[DOERAGYEOL_PARENTS_ROW];
 static uint64_t entries[DOERAGYEOL_ENTRIES_ROW];
 static uint64_t header[DOERAGYEOL_HEADER];
 
-/* Where the swap link of a measure stands in an entry; 0, where the state stands, for a word that is no measure. */
-static size_t place_of(const char *measure)
+/* The measures: their names, and where the swap link and the mark of its lower end stand in an entry. */
+static const struct measure {
+    const char *name;
+    size_t link, lower;
+} measures[] = {
+    {"sum", DOERAGYEOL_ENTRY_SUM, DOERAGYEOL_ENTRY_SUM_LOWER},
+    {"incr", DOERAGYEOL_ENTRY_INCR, DOERAGYEOL_ENTRY_INCR_LOWER},
+    {"max", DOERAGYEOL_ENTRY_MAX, DOERAGYEOL_ENTRY_MAX_LOWER},
+};
+
+/* The measure of a name; null for a word that is none. */
+static const struct measure *measure_of(const char *name)
 {
-    if (strcmp(measure, "sum") == 0)
-        return DOERAGYEOL_ENTRY_SUM;
-    if (strcmp(measure, "incr") == 0)
-        return DOERAGYEOL_ENTRY_INCR;
-    if (strcmp(measure, "max") == 0)
-        return DOERAGYEOL_ENTRY_MAX;
-    return 0;
+    for (size_t i = 0; i < sizeof measures / sizeof *measures; i++)
+        if (strcmp(measures[i].name, name) == 0)
+            return measures + i;
+    return NULL;
 }
 
 /* Reads a file, or its first bytes where it has more than any stored file. Answers 0 where it can be read. */
@@ -39,13 +47,25 @@ static int read_file(const char *name, size_t *length)
     return bad ? -1 : 0;
 }
 
-static void print_node(size_t node, size_t measure)
+/* Prints the swap link of an entry, and its ends from the lower one to the other. */
+static void print_crossing(const uint64_t *entry, const struct measure *by)
+{
+    const uint16_t *link = links + entry[by->link] * DOERAGYEOL_LINK_NUMBERS;
+    unsigned from = link[DOERAGYEOL_LINK_FIRST], to = link[DOERAGYEOL_LINK_SECOND];
+    if (entry[by->lower] == DOERAGYEOL_SECOND_END) {
+        from = link[DOERAGYEOL_LINK_SECOND];
+        to = link[DOERAGYEOL_LINK_FIRST];
+    }
+    printf("cross link %llu from %u to %u\n", (unsigned long long)entry[by->link], from, to);
+}
+
+static void print_node(size_t node, const struct measure *by)
 {
     const uint64_t *entry = entries + node * DOERAGYEOL_ENTRY_NUMBERS;
     printf("node %zu when link %u is down: ", node, (unsigned)parents[node]);
     switch (entry[DOERAGYEOL_ENTRY_STATE]) {
     case DOERAGYEOL_STATE_SWAP:
-        printf("cross link %llu\n", (unsigned long long)entry[measure]);
+        print_crossing(entry, by);
         break;
     case DOERAGYEOL_STATE_NONE:
         printf("no link within the depth\n");
@@ -57,8 +77,8 @@ static void print_node(size_t node, size_t measure)
 
 int main(int count, char **words)
 {
-    size_t measure = count == 3 ? place_of(words[2]) : 0;
-    if (measure == 0) {
+    const struct measure *by = count == 3 ? measure_of(words[2]) : NULL;
+    if (by == NULL) {
         fprintf(stderr, "usage: load FILE sum|incr|max\n");
         return 2;
     }
@@ -76,6 +96,10 @@ int main(int count, char **words)
     }
     for (size_t node = 0; node < header[0]; node++)
         if (node != header[2])
-            print_node(node, measure);
-    return fflush(stdout) == 0 ? 0 : 2;
+            print_node(node, by);
+    if (fflush(stdout) != 0 || ferror(stdout)) {
+        fprintf(stderr, "standard output: cannot be written\n");
+        return 2;
+    }
+    return 0;
 }

@@ -24,7 +24,8 @@
  *   count. A caller gives the row's length as 4 times the number of links.
  * - parents: one number a node, its parent link, and DOERAGYEOL_NO_LINK for the root; 1 to 512 nodes. The row's length
  *   is the number of nodes.
- * - entries: 7 numbers a node: its state, its swap link under sum, incr and max, and the costs of these three.
+ * - entries: 10 numbers a node: its state, its swap link under sum, incr and max, the costs of these three, and for each of
+ *   them which end is the lower, the one that is cut off with the node: DOERAGYEOL_FIRST_END or DOERAGYEOL_SECOND_END.
  *
  * The root is a node. The depth is 0 to 510, or DOERAGYEOL_WHOLE.
  */
@@ -41,14 +42,20 @@ extern "C" {
 /*
  * The version of this interface, which a change of it raises. The library has a function of its own for it, whose name ends
  * with the number; with GCC or Clang every file that includes this header refers to that name, so what was compiled for
- * another version does not link.
+ * another version does not link. Where the linker drops unused sections (--gc-sections) this takes a compiler that knows
+ * `retain` (GCC 11, Clang 13). The header of version 2 had no `retain`: compile its callers anew.
  */
-#define DOERAGYEOL_VERSION 2
+#define DOERAGYEOL_VERSION 3
 
-uint32_t doeragyeol_version_2(void);
+uint32_t doeragyeol_version_3(void);
 
 #if defined(__GNUC__)
-__attribute__((used)) static uint32_t (*const doeragyeol_made_for)(void) = doeragyeol_version_2;
+#if defined(__has_attribute)
+#if __has_attribute(retain)
+__attribute__((retain))
+#endif
+#endif
+__attribute__((used)) static uint32_t (*const doeragyeol_made_for)(void) = doeragyeol_version_3;
 #endif
 
 /* The limits, and how long the rows are that hold all that there can be. */
@@ -56,7 +63,7 @@ __attribute__((used)) static uint32_t (*const doeragyeol_made_for)(void) = doera
 #define DOERAGYEOL_LINKS 2048
 #define DOERAGYEOL_DEPTH 510
 #define DOERAGYEOL_LINK_NUMBERS 4
-#define DOERAGYEOL_ENTRY_NUMBERS 7
+#define DOERAGYEOL_ENTRY_NUMBERS 10
 #define DOERAGYEOL_LINKS_ROW (DOERAGYEOL_LINKS * DOERAGYEOL_LINK_NUMBERS)
 #define DOERAGYEOL_PARENTS_ROW DOERAGYEOL_NODES
 #define DOERAGYEOL_ENTRIES_ROW (DOERAGYEOL_NODES * DOERAGYEOL_ENTRY_NUMBERS)
@@ -84,7 +91,7 @@ __attribute__((used)) static uint32_t (*const doeragyeol_made_for)(void) = doera
 #define DOERAGYEOL_LINK_LENGTH 2
 #define DOERAGYEOL_LINK_MARK 3
 
-/* Where the numbers of an entry stand in its record: the state, the swap links, and their costs. */
+/* Where the numbers of an entry stand in its record: the state, the swap links, their costs, and their lower ends. */
 #define DOERAGYEOL_ENTRY_STATE 0
 #define DOERAGYEOL_ENTRY_SUM 1
 #define DOERAGYEOL_ENTRY_INCR 2
@@ -92,8 +99,18 @@ __attribute__((used)) static uint32_t (*const doeragyeol_made_for)(void) = doera
 #define DOERAGYEOL_ENTRY_SUM_COST 4
 #define DOERAGYEOL_ENTRY_INCR_COST 5
 #define DOERAGYEOL_ENTRY_MAX_COST 6
+#define DOERAGYEOL_ENTRY_SUM_LOWER 7
+#define DOERAGYEOL_ENTRY_INCR_LOWER 8
+#define DOERAGYEOL_ENTRY_MAX_LOWER 9
 
-/* The states of an entry. Only a swap has links and costs; elsewhere they are DOERAGYEOL_NO_LINK and 0. */
+/*
+ * The marks of a link's ends; each is also where that end stands in the link's record. A swap link is crossed from its
+ * lower end, which is cut off with the node, to the other.
+ */
+#define DOERAGYEOL_FIRST_END 0
+#define DOERAGYEOL_SECOND_END 1
+
+/* The states of an entry. Only a swap has links, costs and marks; elsewhere they are DOERAGYEOL_NO_LINK, 0 and 0. */
 #define DOERAGYEOL_STATE_ROOT 0
 #define DOERAGYEOL_STATE_SWAP 1   /* the links to cross are named */
 #define DOERAGYEOL_STATE_NONE 2   /* links cross, but none within the depth */
@@ -139,7 +156,7 @@ uint32_t doeragyeol_check(const uint16_t *links, size_t links_length, const uint
                           uint16_t root, uint16_t depth, uint64_t *sizes, size_t sizes_length);
 
 /*
- * The table of a network: the entry of each node, in node order, into entries (room for 7 a node). Refused by 1 to 10.
+ * The table of a network: the entry of each node, in node order, into entries (room for 10 a node). Refused by 1 to 10.
  */
 uint32_t doeragyeol_table(const uint16_t *links, size_t links_length, const uint16_t *parents, size_t parents_length,
                           uint16_t root, uint16_t depth, uint64_t *entries, size_t entries_length);
@@ -155,7 +172,7 @@ uint32_t doeragyeol_map(const uint16_t *links, size_t links_length, const uint16
 
 /*
  * The change of one link outside the tree: the link gets this service mark and length in links, and the entries of the
- * nodes whose tree link lies on the tree path between the link's ends are worked out afresh in entries (room for 7 a
+ * nodes whose tree link lies on the tree path between the link's ends are worked out afresh in entries (room for 10 a
  * node); every other number of both rows stays. Where entries held the table of the network before, it holds that of the
  * network after. Refused by 1 to 10, 11, 6 at the changed link, 12 and 13.
  */
@@ -173,11 +190,11 @@ uint32_t doeragyeol_write(const uint16_t *links, size_t links_length, const uint
 
 /*
  * The network, the depth and the table that a file holds: links (room for 4 a link), parents (room for 1 a node), entries
- * (room for 7 a node), and in header (room for 4) how many nodes and links there are, the root and the depth. Taken is the
- * one file of its network and depth and no other, so the entries are those that doeragyeol_table gives. Rows of
- * DOERAGYEOL_LINKS_ROW, DOERAGYEOL_PARENTS_ROW and DOERAGYEOL_ENTRIES_ROW numbers hold what any file has. Refused by 20, by
- * 21 and 22 of the header's block, by 1 to 4, by 20 for the number of blocks, by 21 and 22 block by block, by 5 to 9, 10
- * and 24.
+ * (room for 10 a node), and in header (room for 4) how many nodes and links there are, the root and the depth. Taken is the
+ * one file of its network and depth and no other, so the entries are those that doeragyeol_table gives; a file of edition 1
+ * stores no marks of lower ends, and the entries have them all the same. Rows of DOERAGYEOL_LINKS_ROW,
+ * DOERAGYEOL_PARENTS_ROW and DOERAGYEOL_ENTRIES_ROW numbers hold what any file has. Refused by 20, by 21 and 22 of the
+ * header's block, by 1 to 4, by 20 for the number of blocks, by 21 and 22 block by block, by 5 to 9, 10 and 24.
  */
 uint32_t doeragyeol_read(const uint8_t *file, size_t file_length, uint16_t *links, size_t links_length,
                          uint16_t *parents, size_t parents_length, uint64_t *entries, size_t entries_length,

@@ -9,7 +9,7 @@ use crate::limits::*;
 use crate::network::Rows;
 use crate::refusal::Why;
 use crate::rng::Rng;
-use crate::table::entries;
+use crate::table::{entries, Entry};
 
 /// A fault of a file, in the order in which the faults are put in.
 #[derive(Clone, Copy, PartialEq, Eq, PartialOrd, Ord, Debug)]
@@ -31,6 +31,7 @@ pub enum FileFault {
     Used,
     Filler,
     EntryZeros,
+    EntryMarks,
     /// 1 to 4: the header's numbers.
     NodeCount,
     LinkCount,
@@ -54,7 +55,7 @@ pub enum FileFault {
 use FileFault as F;
 
 /// All faults of a file.
-pub const FILE_FAULTS: [F; 26] = [
+pub const FILE_FAULTS: [F; 27] = [
     F::Ends,
     F::Mark,
     F::ParentLink,
@@ -69,6 +70,7 @@ pub const FILE_FAULTS: [F; 26] = [
     F::Used,
     F::Filler,
     F::EntryZeros,
+    F::EntryMarks,
     F::NodeCount,
     F::LinkCount,
     F::Root,
@@ -89,6 +91,14 @@ pub struct Lent {
     pub bytes: Vec<u8>,
     pub rooms: [usize; 3],
     slots: Vec<Slot>,
+    marks: Vec<u8>,
+}
+
+/// The marks of an entry's lower ends as bits 0 to 2, for sum, incr, max. No
+/// file of edition 1 has them.
+fn mark_bits(entry: &Entry) -> u8 {
+    let [sum, incr, max] = entry.lower.map(|mark| mark as u8);
+    sum | incr << 1 | max << 2
 }
 
 /// The refusal whose fault goes into the network before it is stored.
@@ -115,6 +125,7 @@ pub fn damaged(rng: &mut Rng, sound: &Rows, depth: u16, faults: &[F]) -> Lent {
         bytes: stored(&faulty.rows.lend(), depth, &table),
         rooms: [LINK_WIDTH * m, n, ENTRY_WIDTH * n],
         slots: slots(n, m),
+        marks: table.iter().map(mark_bits).collect(),
     };
     let mut order = faults.to_vec();
     order.sort();
@@ -136,6 +147,7 @@ impl Lent {
             F::Kind | F::Edition | F::Number | F::Used => self.spoil_front(rng, fault),
             F::Filler => self.spoil_filler(rng),
             F::EntryZeros => self.spoil_entry(rng, fault),
+            F::EntryMarks => self.spoil_marks(rng),
             F::NodeCount => self.set_header(0, rng.pick(&[0, MOST_NODES as u16 + 1, 65_535])),
             F::LinkCount => self.set_header(1, rng.pick(&[MOST_LINKS as u16 + 1, 65_535])),
             F::Root => self.set_header(2, rng.pick(&[600, NO_NODE])),
@@ -160,7 +172,7 @@ impl Lent {
     }
 
     /// Changes one byte of a block and corrects the block's check.
-    fn change_byte(&mut self, block: usize, at: usize, value: u8) {
+    pub fn change_byte(&mut self, block: usize, at: usize, value: u8) {
         let part = &mut self.bytes[BLOCK * block..BLOCK * (block + 1)];
         part[at] = value;
         seal(part);
@@ -233,6 +245,40 @@ impl Lent {
             _ => entry + rng.pick(&ENTRY_ZEROS),
         };
         self.flip(rng, block, at);
+    }
+
+    /// Puts a number where the marks of node x would stand: its entry's first
+    /// zero.
+    pub fn put_marks(&mut self, x: usize, value: u8) {
+        let holds = |slot: &Slot| slot.kind == KIND_TABLE && x < slot.first + slot.used;
+        let block = self.slots.iter().position(holds).expect("x is a node");
+        let entry = HEAD + ENTRY_BYTES * (x - self.slots[block].first);
+        self.change_byte(block, entry + ENTRY_ZEROS[0], value);
+    }
+
+    /// Puts the right marks of every node there.
+    pub fn put_right_marks(&mut self) {
+        for x in 0..self.marks.len() {
+            self.put_marks(x, self.marks[x]);
+        }
+    }
+
+    /// The right marks of all entries, or of one where they are not 0, or any
+    /// marks but 0 in one.
+    fn spoil_marks(&mut self, rng: &mut Rng) {
+        let nodes = 0..self.marks.len();
+        let marked: Vec<usize> = nodes.filter(|&x| self.marks[x] != 0).collect();
+        match rng.below(3) {
+            0 if !marked.is_empty() => self.put_right_marks(),
+            1 if !marked.is_empty() => {
+                let x = rng.pick(&marked);
+                self.put_marks(x, self.marks[x]);
+            }
+            _ => {
+                let x = rng.below(self.marks.len());
+                self.put_marks(x, rng.from_to(1, 7) as u8);
+            }
+        }
     }
 
     fn spoil_check(&mut self, rng: &mut Rng) {

@@ -9,6 +9,7 @@ pub mod block;
 pub mod cases;
 pub mod change;
 pub mod check;
+pub mod ends;
 pub mod faults;
 pub mod file;
 pub mod file_faults;

@@ -20,6 +20,10 @@ pub const LONGEST: u16 = 65_535;
 pub const IN_SERVICE: u16 = 1;
 /// The service mark of a withdrawn link.
 pub const WITHDRAWN: u16 = 0;
+/// The mark of a swap link whose first end is the lower one, and of no swap.
+pub const FIRST_END: u16 = 0;
+/// The mark of a swap link whose second end is the lower one.
+pub const SECOND_END: u16 = 1;
 
 // Records held as plain numbers.
 
@@ -29,8 +33,8 @@ pub const LINK_WIDTH: usize = 4;
 pub const LENGTH_AT: usize = 2;
 /// The place of the service mark in a link.
 pub const MARK_AT: usize = 3;
-/// Numbers in an entry: state, three links, three costs.
-pub const ENTRY_WIDTH: usize = 7;
+/// Numbers in an entry: state, three links, three costs, three lower ends.
+pub const ENTRY_WIDTH: usize = 10;
 /// The measures: sum, incr, max.
 pub const MEASURES: usize = 3;
 /// Words of the map.

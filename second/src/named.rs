@@ -1,5 +1,6 @@
 //! Networks with a name: the shapes and limits that every run goes through.
 
+use crate::ends::recorded;
 use crate::harbour::harbour;
 use crate::limits::*;
 use crate::network::Rows;
@@ -86,7 +87,8 @@ fn tiny() -> Vec<Named> {
     list
 }
 
-/// Small networks of every shape.
+/// Small networks of every shape, and those with links recorded from either
+/// end.
 pub fn small() -> Vec<Named> {
     let mut rng = Rng::new(1);
     let doubled = Draft::path(5, 4).with_parallels(&mut rng, 6);
@@ -118,6 +120,7 @@ pub fn small() -> Vec<Named> {
         ("map-words", Draft::star(130, 1)),
         ("map-second-word", high.join(50, 100, 1)),
     ]));
+    list.extend(recorded());
     list
 }
 

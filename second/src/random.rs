@@ -36,8 +36,25 @@ fn lengths(rng: &mut Rng, draft: Draft) -> Draft {
     }
 }
 
-/// A draft of n nodes with a shape, more links, parallels and lengths.
+/// A path, and links from its beginning to some nodes, all about as long as the
+/// whole path: the measures often take different links.
+fn fan(rng: &mut Rng, n: usize) -> Draft {
+    let most = rng.pick(&[1, 3, 9, 40]);
+    let mut draft = Draft::path(n, 0).with_lengths(|_| rng.from_to(0, most) as u16);
+    let far: u16 = draft.links.iter().map(|link| link.length).sum();
+    for _ in 0..rng.from_to(2, 6) {
+        let z = rng.from_to(1, n - 1);
+        draft.add(0, z, far + rng.below(2) as u16, IN_SERVICE);
+    }
+    draft
+}
+
+/// A draft of n nodes with a shape, more links, parallels and lengths, mostly
+/// with links recorded from either end.
 pub fn draft(rng: &mut Rng, n: usize) -> Draft {
+    if n > 3 && rng.chance(15) {
+        return fan(rng, n).turned(rng).shuffled(rng);
+    }
     let mut draft = shape(rng, n);
     let more = rng.pick(&[0, 0, 1, 2, n / 4, n, 2 * n]);
     draft = draft.with_more(rng, more);
@@ -47,6 +64,9 @@ pub fn draft(rng: &mut Rng, n: usize) -> Draft {
     let withdrawn = rng.pick(&[0, 0, 1, 3]);
     draft = draft.with_withdrawn(rng, withdrawn);
     draft.links.truncate(MOST_LINKS);
+    if rng.chance(60) {
+        draft = draft.turned(rng);
+    }
     if rng.chance(70) {
         draft = draft.shuffled(rng);
     }
@@ -69,7 +89,7 @@ pub fn rich_network(rng: &mut Rng) -> Rows {
     let mut draft = Draft::sprawl(rng, n).with_more(rng, n);
     draft = draft.join(1, 2, 1).join(2, 3, 1).join(0, 3, 1);
     draft = draft.with_lengths(|_| rng.from_to(2, 9) as u16);
-    draft = draft.with_withdrawn(rng, 2).shuffled(rng);
+    draft = draft.with_withdrawn(rng, 2).turned(rng).shuffled(rng);
     draft.with_tree(rng)
 }
 
@@ -119,8 +139,8 @@ pub fn depth(rng: &mut Rng) -> u16 {
 pub fn room(rng: &mut Rng, need: usize) -> usize {
     match rng.below(10) {
         0..=4 => need,
-        5..=7 => need + rng.pick(&[1, 3, 6, 7, 20]),
+        5..=7 => need + rng.pick(&[1, 3, 7, 9, 10, 20]),
         8 => need + rng.below(300),
-        _ => need.saturating_sub(rng.pick(&[1, 1, 7, 30])),
+        _ => need.saturating_sub(rng.pick(&[1, 1, 7, 10, need * 3 / 10])),
     }
 }

@@ -123,6 +123,16 @@ impl Draft {
         self
     }
 
+    /// The same with each link recorded from either end.
+    pub fn turned(mut self, rng: &mut Rng) -> Draft {
+        for link in &mut self.links {
+            if rng.chance(50) {
+                link.ends.reverse();
+            }
+        }
+        self
+    }
+
     /// The same with new lengths.
     pub fn with_lengths(mut self, mut length: impl FnMut(usize) -> u16) -> Draft {
         for (e, link) in self.links.iter_mut().enumerate() {

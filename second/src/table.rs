@@ -16,12 +16,14 @@ pub enum State {
     Bridge = 3,
 }
 
-/// An entry: the state, the links and the costs for sum, incr, max.
+/// An entry: the state, and for sum, incr, max the links, the costs and the
+/// marks of the links' lower ends.
 #[derive(Clone, Copy, PartialEq, Eq, Debug)]
 pub struct Entry {
     pub state: State,
     pub links: [u16; MEASURES],
     pub costs: [u64; MEASURES],
+    pub lower: [u16; MEASURES],
 }
 
 impl Entry {
@@ -31,6 +33,7 @@ impl Entry {
             state,
             links: [NO_LINK; MEASURES],
             costs: [0; MEASURES],
+            lower: [FIRST_END; MEASURES],
         }
     }
 
@@ -38,7 +41,8 @@ impl Entry {
     pub fn numbers(&self) -> [u64; ENTRY_WIDTH] {
         let [s, i, m] = self.links.map(u64::from);
         let [cs, ci, cm] = self.costs;
-        [self.state as u64, s, i, m, cs, ci, cm]
+        let [ls, li, lm] = self.lower.map(u64::from);
+        [self.state as u64, s, i, m, cs, ci, cm, ls, li, lm]
     }
 
     /// Whether the node of this entry belongs in the unprotected map.
@@ -173,8 +177,20 @@ impl<'a> Search<'a> {
             let (cost, link) = least(&priced, k);
             entry.links[k] = link as u16;
             entry.costs[k] = cost;
+            entry.lower[k] = self.lower_end(x, link);
         }
         entry
+    }
+
+    /// Which end of a link that crosses x is cut off with x, the one in T(x).
+    fn lower_end(&self, x: usize, link: usize) -> u16 {
+        let [first, second] = self.net.link(link).ends.map(usize::from);
+        let cut = [first, second].map(|end| self.tree.is_below(end, x));
+        match cut {
+            [true, false] => FIRST_END,
+            [false, true] => SECOND_END,
+            _ => panic!("link {link} does not cross {x}"),
+        }
     }
 }
 

@@ -78,11 +78,12 @@ fn an_all_zero_block() {
     assert_eq!(answer(&[0; 512], [0, 0, 0]), Err((21, 0)));
 }
 
+/// Also where the number would be the right marks of node 2, which are 7.
 #[test]
 fn zeros_inside_entries_are_filler() {
-    for zero in [3, 10, 11] {
+    for (zero, value) in [(3, 1), (3, 7), (3, 8), (10, 1), (11, 1)] {
         let mut block = harbour_file()[1_024..].to_vec();
-        block[8 + 2 * 28 + zero] = 1;
+        block[8 + 2 * 28 + zero] = value;
         correct(&mut block, 0);
         assert_eq!(answer(&block, ASKED[2]), Err((22, 2)));
     }

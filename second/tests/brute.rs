@@ -25,25 +25,32 @@ fn the_plain_definitions_give_harbour() {
     assert_eq!(plain::table(&harbour, 65_535), common::harbour_table());
 }
 
-/// All four states and costs of 0 must have been met.
+/// All four states, costs of 0 and all eight triples of marks must have been
+/// met.
 #[test]
 fn tables_are_equal() {
     let mut rng = Rng::new(31);
     let mut states = [0; 4];
     let mut free = 0;
+    let mut marks = [0; 8];
     for _ in 0..6_000 {
         let rows = small_network(&mut rng);
         let depth = rng.pick(&DEPTHS);
-        let mut row = vec![7; 7 * rows.parents.len()];
+        let mut row = vec![7; 10 * rows.parents.len()];
         table(&rows.lend(), depth, &mut row).unwrap();
         assert_eq!(row, plain::table(&rows, depth), "{rows:?} at depth {depth}");
-        for entry in row.chunks(7) {
+        for entry in row.chunks(10) {
             states[entry[0] as usize] += 1;
-            free += usize::from(entry[0] == 1 && entry[4..] == [0; 3]);
+            free += usize::from(entry[0] == 1 && entry[4..7] == [0; 3]);
+            if entry[0] == 1 {
+                let [sum, incr, max] = [7, 8, 9].map(|at| entry[at] as usize);
+                marks[4 * sum + 2 * incr + max] += 1;
+            }
         }
     }
     assert!(states.iter().all(|&count| count > 300), "{states:?}");
     assert!(free > 100, "{free}");
+    assert!(marks.iter().all(|&count| count > 20), "{marks:?}");
 }
 
 #[test]
@@ -77,7 +84,7 @@ fn maps_are_equal() {
         let map = map(&rows.lend(), depth, &mut [0; 8]).unwrap();
         let entries = plain::table(&rows, depth);
         let open: Vec<usize> = (0..rows.parents.len())
-            .filter(|&x| entries[7 * x] >= 2)
+            .filter(|&x| entries[10 * x] >= 2)
             .collect();
         let bits: u64 = open.iter().map(|&x| 1 << x).sum();
         assert_eq!(map.words, [bits, 0, 0, 0, 0, 0, 0, 0]);
@@ -132,7 +139,7 @@ fn changes_are_equal() {
         };
         let right = verdict(&before, &wanted);
         let mut rows = before.clone();
-        let mut row = vec![7; 7 * rows.parents.len()];
+        let mut row = vec![7; 10 * rows.parents.len()];
         let answer = common::told(change(&mut rows, depth, &mut row, &wanted));
         assert_eq!(answer, right, "{before:?} {wanted:?}");
         verdicts[right.map_or_else(|(number, _)| number as usize, |()| 0)] += 1;
@@ -141,7 +148,7 @@ fn changes_are_equal() {
         } else {
             assert_eq!(
                 (rows, row),
-                (before.clone(), vec![7; 7 * before.parents.len()])
+                (before.clone(), vec![7; 10 * before.parents.len()])
             );
         }
     }
@@ -160,12 +167,12 @@ fn check_changed(before: &Rows, after: &Rows, depth: u16, row: &[u64], wanted: &
     let (a, b, _, _) = plain::link(before, e);
     let on_path = path(before, a, b);
     for x in 0..before.parents.len() {
-        let entry = &row[7 * x..7 * x + 7];
+        let entry = &row[10 * x..10 * x + 10];
         let fresh = plain::entry(after, depth, x);
         if on_path.contains(&x) {
             assert_eq!(entry, fresh);
         } else {
-            assert_eq!(entry, [7; 7]);
+            assert_eq!(entry, [7; 10]);
             assert_eq!(fresh, plain::entry(before, depth, x));
         }
     }

@@ -12,7 +12,7 @@ use second::table::table;
 
 /// The table of a network at a depth.
 fn table_of(rows: &Rows, depth: u16) -> Vec<u64> {
-    let mut row = vec![7; 7 * rows.parents.len()];
+    let mut row = vec![7; 10 * rows.parents.len()];
     table(&rows.lend(), depth, &mut row).unwrap();
     row
 }
@@ -20,7 +20,7 @@ fn table_of(rows: &Rows, depth: u16) -> Vec<u64> {
 /// A change of Harbour on a row that is all 7.
 fn changed(link: u16, mark: u16, length: u16) -> (Result<(), (u16, usize)>, Rows, Vec<u64>) {
     let mut rows = harbour();
-    let mut row = vec![7; 35];
+    let mut row = vec![7; 50];
     let wanted = Change { link, mark, length };
     let answer = told(change(&mut rows, WHOLE, &mut row, &wanted));
     (answer, rows, row)
@@ -30,7 +30,7 @@ fn changed(link: u16, mark: u16, length: u16) -> (Result<(), (u16, usize)>, Rows
 fn refused(link: u16, mark: u16, length: u16) -> (u16, usize) {
     let (answer, rows, row) = changed(link, mark, length);
     assert_eq!(rows, harbour());
-    assert_eq!(row, vec![7; 35]);
+    assert_eq!(row, vec![7; 50]);
     answer.unwrap_err()
 }
 
@@ -42,7 +42,7 @@ fn p1_to_p4_the_four_entries() {
 #[test]
 fn p5_depth_0() {
     let mut right = harbour_table();
-    right[7..14].copy_from_slice(&[2, NONE, NONE, NONE, 0, 0, 0]);
+    right[10..20].copy_from_slice(&[2, NONE, NONE, NONE, 0, 0, 0, 0, 0, 0]);
     assert_eq!(table_of(&harbour(), 0), right);
 }
 
@@ -58,10 +58,10 @@ fn p7_a_tie_keeps_the_lowest_link() {
     let mut links = harbour().links;
     links[22] = 2;
     assert_eq!(rows.links, links);
-    assert_eq!(row[..14], [7; 14]);
-    assert_eq!(row[14..21], [1, 5, 5, 5, 5, 0, 5]);
-    assert_eq!(row[21..28], [1, 4, 4, 4, 7, 4, 7]);
-    assert_eq!(row[28..], [7; 7]);
+    assert_eq!(row[..20], [7; 20]);
+    assert_eq!(row[20..30], [1, 5, 5, 5, 5, 0, 5, 0, 0, 0]);
+    assert_eq!(row[30..40], [1, 4, 4, 4, 7, 4, 7, 1, 1, 1]);
+    assert_eq!(row[40..], [7; 10]);
 }
 
 #[test]
@@ -76,10 +76,10 @@ fn p9_a_link_withdrawn() {
     let mut links = harbour().links;
     links[15] = 0;
     assert_eq!(rows.links, links);
-    assert_eq!(row[..7], [7; 7]);
-    assert_eq!(row[7..14], [1, 4, 4, 4, 26, 6, 11]);
-    assert_eq!(row[14..21], [1, 5, 5, 5, 7, 2, 7]);
-    assert_eq!(row[21..], [7; 14]);
+    assert_eq!(row[..10], [7; 10]);
+    assert_eq!(row[10..20], [1, 4, 4, 4, 26, 6, 11, 1, 1, 1]);
+    assert_eq!(row[20..30], [1, 5, 5, 5, 7, 2, 7, 0, 0, 0]);
+    assert_eq!(row[30..], [7; 20]);
 }
 
 #[test]
@@ -91,7 +91,8 @@ fn p10_a_tree_link() {
 #[test]
 fn p11_one_node() {
     let one = rows(&[65_535], &[], 0);
-    assert_eq!(table_of(&one, WHOLE), [0, NONE, NONE, NONE, 0, 0, 0]);
+    let root = [0, NONE, NONE, NONE, 0, 0, 0, 0, 0, 0];
+    assert_eq!(table_of(&one, WHOLE), root);
 }
 
 #[test]
@@ -111,7 +112,7 @@ fn withdrawing_needs_no_shortness_and_stores_the_length() {
     let (answer, rows, row) = changed(5, 0, 1);
     assert_eq!(answer, Ok(()));
     assert_eq!(rows.links[20..24], [2, 3, 1, 0]);
-    assert_eq!(row[14..21], [1, 3, 3, 3, 6, 1, 6]);
+    assert_eq!(row[20..30], [1, 3, 3, 3, 6, 1, 6, 1, 1, 1]);
 }
 
 #[test]
@@ -195,7 +196,7 @@ fn the_order_of_a_network() {
         let place = [0, 0, 0, 0, 0, 3, 4, 4, 2, 5][number];
         let right = Err((number as u16, place));
         assert_eq!(told(check(&rows.lend(), depth).map(|_| ())), right);
-        assert_eq!(told(table(&rows.lend(), depth, &mut [7; 34])), right);
+        assert_eq!(told(table(&rows.lend(), depth, &mut [7; 49])), right);
         assert_eq!(
             told(map(&rows.lend(), depth, &mut [7; 7]).map(|_| ())),
             right
@@ -205,13 +206,13 @@ fn the_order_of_a_network() {
             mark: 2,
             length: 1,
         };
-        let answer = told(change(&mut rows, depth, &mut [7; 34], &wanted));
+        let answer = told(change(&mut rows, depth, &mut [7; 49], &wanted));
         assert_eq!(answer, right);
     }
     let mut rows = harbour();
     for (link, mark, length, right) in [(7, 2, 1, (10, 0)), (0, 2, 1, (10, 0))] {
         let wanted = Change { link, mark, length };
-        let answer = told(change(&mut rows, WHOLE, &mut [7; 34], &wanted));
+        let answer = told(change(&mut rows, WHOLE, &mut [7; 49], &wanted));
         assert_eq!(answer, Err(right));
     }
 }
@@ -231,7 +232,8 @@ fn the_longest_path_reaches_the_bounds() {
     let links: Vec<[u16; 3]> = (0..1_022).map(|e| [e % 511, e % 511 + 1, 65_535]).collect();
     let parents: Vec<u16> = (0..512u16).map(|x| x.wrapping_sub(1)).collect();
     let row = table_of(&rows(&parents, &links, 0), 510);
-    assert_eq!(row[7..14], [1, 511, 511, 511, 8_573_026_560, 0, 33_488_385]);
+    let right = [1, 511, 511, 511, 8_573_026_560, 0, 33_488_385, 1, 1, 1];
+    assert_eq!(row[10..20], right);
 }
 
 /// Depth 510 reaches the end of a path of 512 from node 1; 509 does not.
@@ -242,17 +244,17 @@ fn depth_510_is_as_good_as_the_whole_search() {
     let parents: Vec<u16> = (0..512u16).map(|x| x.wrapping_sub(1)).collect();
     let path = rows(&parents, &links, 0);
     assert_eq!(table_of(&path, 510), table_of(&path, WHOLE));
-    assert_eq!(table_of(&path, 510)[7..11], [1, 511, 511, 511]);
+    assert_eq!(table_of(&path, 510)[10..14], [1, 511, 511, 511]);
     let nearer = table_of(&path, 509);
-    assert_eq!(nearer[7..14], [2, NONE, NONE, NONE, 0, 0, 0]);
-    assert_eq!(nearer[14..18], [1, 511, 511, 511]);
+    assert_eq!(nearer[10..20], [2, NONE, NONE, NONE, 0, 0, 0, 0, 0, 0]);
+    assert_eq!(nearer[20..24], [1, 511, 511, 511]);
 }
 
 /// With lengths of 0 a swap may cost nothing under every measure.
 #[test]
 fn a_cost_of_0_is_lawful() {
     let zero = rows(&[65_535, 0], &[[0, 1, 0], [1, 0, 0]], 0);
-    assert_eq!(table_of(&zero, 0)[7..14], [1, 1, 1, 1, 0, 0, 0]);
+    assert_eq!(table_of(&zero, 0)[10..20], [1, 1, 1, 1, 0, 0, 0, 0, 0, 0]);
 }
 
 /// A part of a record at the end of the row is no link.
@@ -263,7 +265,7 @@ fn only_whole_records_count() {
     assert_eq!(table_of(&partial, WHOLE), harbour_table());
     partial.links.push(9);
     assert_eq!(told(check(&partial.lend(), WHOLE).map(|_| ())), Err((5, 7)));
-    let mut row = [7; 34];
+    let mut row = [7; 49];
     assert_eq!(told(table(&harbour().lend(), 0, &mut row)), Err((10, 0)));
-    assert_eq!(row, [7; 34]);
+    assert_eq!(row, [7; 49]);
 }

@@ -19,11 +19,11 @@ fn bytes(op: u16, bytes: &[u8], abc: [u16; 3]) -> Vec<u8> {
     Case::over_bytes(op, bytes, abc).encode()
 }
 
-const TABLE: &str = "0 0 65535 65535 65535 0 0 0
-1 1 3 4 3 25 6 10
-2 1 3 3 3 6 1 6
-3 1 4 4 4 7 4 7
-4 3 65535 65535 65535 0 0 0
+const TABLE: &str = "0 0 65535 65535 65535 0 0 0 0 0 0
+1 1 3 4 3 25 6 10 1 1 1
+2 1 3 3 3 6 1 6 1 1 1
+3 1 4 4 4 7 4 7 1 1 1
+4 3 65535 65535 65535 0 0 0 0 0 0
 ";
 
 #[test]
@@ -42,10 +42,13 @@ fn a_case_is_eleven_words_and_its_rows() {
 fn check_table_and_map() {
     assert_eq!(answers(&case(1, 0, [0; 3])), "check ok\n");
     let right = format!("table ok\n{TABLE}rest kept\n");
-    assert_eq!(answers(&case(2, 35, [0; 3])), right);
-    assert_eq!(answers(&case(2, 40_000, [0; 3])), right);
+    for room in [50, 59, 60, 40_000] {
+        assert_eq!(answers(&case(2, room, [0; 3])), right);
+    }
     let short = "table refused 10 0\nrest kept\n";
-    assert_eq!(answers(&case(2, 34, [0; 3])), short);
+    for room in [0, 35, 49] {
+        assert_eq!(answers(&case(2, room, [0; 3])), short);
+    }
     let right = "map ok 1 4 16 0 0 0 0 0 0 0\nrest kept\n";
     assert_eq!(answers(&case(3, 8, [0; 3])), right);
     let short = "map refused 10 0\nrest kept\n";
@@ -56,43 +59,46 @@ fn check_table_and_map() {
 fn a_change_after_the_table() {
     let right = "change ok
 link 2 3 2 1
-0 0 65535 65535 65535 0 0 0
-1 1 3 4 3 25 6 10
-2 1 5 5 5 5 0 5
-3 1 4 4 4 7 4 7
-4 3 65535 65535 65535 0 0 0
+0 0 65535 65535 65535 0 0 0 0 0 0
+1 1 3 4 3 25 6 10 1 1 1
+2 1 5 5 5 5 0 5 0 0 0
+3 1 4 4 4 7 4 7 1 1 1
+4 3 65535 65535 65535 0 0 0 0 0 0
 links kept
 rest kept
 ";
-    assert_eq!(answers(&case(4, 36, [5, 1, 2])), right);
+    assert_eq!(answers(&case(4, 51, [5, 1, 2])), right);
     let right = format!("change refused 13 5\nlink 2 3 4 1\n{TABLE}links kept\nrest kept\n");
-    assert_eq!(answers(&case(4, 36, [5, 1, 1])), right);
+    assert_eq!(answers(&case(4, 51, [5, 1, 1])), right);
     let right = format!("change refused 11 0\n{TABLE}links kept\nrest kept\n");
-    assert_eq!(answers(&case(4, 36, [7, 1, 1])), right);
-    assert_eq!(answers(&case(4, 34, [5, 1, 2])), "table refused 10 0\n");
+    assert_eq!(answers(&case(4, 51, [7, 1, 1])), right);
+    for room in [35, 49] {
+        assert_eq!(answers(&case(4, room, [5, 1, 2])), "table refused 10 0\n");
+    }
 }
 
 #[test]
 fn a_change_on_a_row_of_sevens() {
     let right = "change ok
 link 0 2 6 0
-0 7 7 7 7 7 7 7
-1 1 4 4 4 26 6 11
-2 1 5 5 5 7 2 7
-3 7 7 7 7 7 7 7
-4 7 7 7 7 7 7 7
+0 7 7 7 7 7 7 7 7 7 7
+1 1 4 4 4 26 6 11 1 1 1
+2 1 5 5 5 7 2 7 0 0 0
+3 7 7 7 7 7 7 7 7 7 7
+4 7 7 7 7 7 7 7 7 7 7
 links kept
 rest kept
 ";
-    assert_eq!(answers(&case(5, 50, [3, 0, 6])), right);
-    let right = "change refused 10 0
-link 0 2 6 1
-0 7 7 7 7 7 7 7
-1 7 7 7 7 7 7 7
-links kept
-rest kept
-";
-    assert_eq!(answers(&case(5, 20, [3, 0, 6])), right);
+    for room in [50, 59, 60, 40_000] {
+        assert_eq!(answers(&case(5, room, [3, 0, 6])), right);
+    }
+    for (room, count) in [(0, 0), (9, 0), (10, 1), (19, 1), (35, 3), (49, 4)] {
+        let sevens: String = (0..count)
+            .map(|x| format!("{x}{}\n", " 7".repeat(10)))
+            .collect();
+        let right = format!("change refused 10 0\nlink 0 2 6 1\n{sevens}links kept\nrest kept\n");
+        assert_eq!(answers(&case(5, room, [3, 0, 6])), right);
+    }
 }
 
 #[test]
@@ -121,10 +127,13 @@ parents 65535 0 1 2 6
 {TABLE}rest kept
 "
     );
-    assert_eq!(answers(&bytes(7, &harbour_file(), [28, 5, 35])), right);
-    assert_eq!(answers(&bytes(7, &harbour_file(), [31, 6, 41])), right);
+    for rooms in [[28, 5, 50], [31, 6, 56], [28, 5, 59]] {
+        assert_eq!(answers(&bytes(7, &harbour_file(), rooms)), right);
+    }
     let right = "read refused 10 0\nrest kept\n";
-    assert_eq!(answers(&bytes(7, &harbour_file(), [27, 5, 35])), right);
+    for rooms in [[27, 5, 50], [28, 5, 49], [28, 5, 35]] {
+        assert_eq!(answers(&bytes(7, &harbour_file(), rooms)), right);
+    }
 }
 
 #[test]

@@ -15,7 +15,7 @@ use std::collections::BTreeMap;
 fn mixed(links: &[u16], entries: &[u64]) -> u64 {
     let mut sum: u64 = 0;
     let links = links.iter().map(|&w| u64::from(w));
-    for x in links.chain(entries.iter().copied()).chain([7; 14]) {
+    for x in links.chain(entries.iter().copied()).chain([7; 20]) {
         sum = (31 * sum + x) % 4_294_967_291;
     }
     sum
@@ -37,10 +37,10 @@ fn the_paper_in_turn() {
     let (mut links, mut entries) = (harbour().links, harbour_table());
     let before = mixed(&links, &entries);
     links[22] = 2;
-    entries[14..21].copy_from_slice(&[1, 5, 5, 5, 5, 0, 5]);
+    entries[20..30].copy_from_slice(&[1, 5, 5, 5, 5, 0, 5, 0, 0, 0]);
     let seventh = mixed(&links, &entries);
     links[15] = 0;
-    entries[7..14].copy_from_slice(&[1, 4, 4, 4, 26, 6, 11]);
+    entries[10..20].copy_from_slice(&[1, 4, 4, 4, 26, 6, 11, 1, 1, 1]);
     let ninth = mixed(&links, &entries);
     let changes = [
         [5, 1, 1],
@@ -114,12 +114,13 @@ fn mending_agrees() {
 /// Lines by how they begin, of the series that the gate compares.
 #[test]
 fn the_made_series_have_every_answer() {
-    let (mut counts, mut moved, mut largest) = (BTreeMap::new(), 0, false);
+    let (mut counts, mut moved, mut largest) = (BTreeMap::new(), [0; 2], false);
     for seed in 0..40 {
         let made = series(seed, 100);
         assert_eq!(Series::decode(&made.encode()), Some(made.clone()));
         largest |= made.rows.parents.len() == 512 && made.rows.lend().m() == 2_048;
-        moved += entries_moved(&made);
+        let more = entries_moved(&made);
+        moved = [moved[0] + more[0], moved[1] + more[1]];
         for line in lines(&made.encode()).lines() {
             let words: Vec<&str> = line.split(' ').collect();
             let told: u16 = match words[0] {
@@ -131,21 +132,28 @@ fn the_made_series_have_every_answer() {
     }
     assert!(largest);
     assert!(counts[&0] > 4_000 / 3);
-    assert!(moved > 4_000 / 10, "{moved}");
+    assert!(moved[0] > 4_000 / 10, "{moved:?}");
+    assert!(moved[1] > 4_000 / 20, "{moved:?}");
     let numbers: Vec<u16> = counts.keys().copied().collect();
     assert_eq!(numbers, [0, 6, 11, 12, 13]);
     assert!(counts.values().all(|&count| count > 100), "{counts:?}");
 }
 
-/// How many changes of a series change an entry.
-fn entries_moved(series: &Series) -> usize {
+/// How many changes of a series change an entry, and how many a mark of one.
+fn entries_moved(series: &Series) -> [usize; 2] {
     let mut rows = series.rows.clone();
     let mut row = fresh(&rows, series.depth).unwrap();
-    let mut moved = 0;
+    let mut moved = [0; 2];
     for wanted in &series.changes {
         let before = row.clone();
         let _ = change(&mut rows, series.depth, &mut row, wanted);
-        moved += usize::from(row != before);
+        moved[0] += usize::from(row != before);
+        let marks = |row: &[u64]| -> Vec<u64> {
+            row.chunks(10)
+                .flat_map(|entry| entry[7..].to_vec())
+                .collect()
+        };
+        moved[1] += usize::from(marks(&row) != marks(&before));
     }
     moved
 }

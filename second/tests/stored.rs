@@ -14,7 +14,7 @@ use second::table::table;
 
 /// What the reader answers with enough room.
 fn answer(file: &[u8]) -> Result<(usize, usize, u16, u16), (u16, usize)> {
-    answer_with(file, [8_192, 512, 3_584])
+    answer_with(file, [8_192, 512, 5_120])
 }
 
 /// What the reader answers. A refusal must leave the rows as they were.
@@ -65,14 +65,14 @@ fn the_writer_writes_the_file_made_by_hand() {
 
 #[test]
 fn the_reader_reads_the_file_made_by_hand() {
-    let (mut links, mut parents, mut row) = ([7; 30], [7; 6], [7; 43]);
+    let (mut links, mut parents, mut row) = ([7; 30], [7; 6], [7; 58]);
     let said = read(&harbour_file(), &mut links, &mut parents, &mut row).unwrap();
     assert_eq!((said.n, said.m, said.root, said.depth), (5, 7, 0, WHOLE));
     assert_eq!(links[..28], harbour().links);
     assert_eq!(parents[..5], harbour().parents);
-    assert_eq!(row[..35], harbour_table());
+    assert_eq!(row[..50], harbour_table());
     assert_eq!((links[28..].to_vec(), parents[5]), (vec![7; 2], 7));
-    assert_eq!(row[35..], [7; 8]);
+    assert_eq!(row[50..], [7; 8]);
 }
 
 #[test]
@@ -155,8 +155,16 @@ fn the_network_of_the_file() {
 #[test]
 fn rows_too_short() {
     let file = harbour_file();
-    assert_eq!(answer_with(&file, [28, 5, 35]), Ok((5, 7, 0, WHOLE)));
-    for rooms in [[27, 5, 35], [28, 4, 35], [28, 5, 34], [0, 0, 0]] {
+    for room in [50, 51, 59, 60] {
+        assert_eq!(answer_with(&file, [28, 5, room]), Ok((5, 7, 0, WHOLE)));
+    }
+    for rooms in [
+        [27, 5, 50],
+        [28, 4, 50],
+        [28, 5, 49],
+        [28, 5, 35],
+        [0, 0, 0],
+    ] {
         assert_eq!(answer_with(&file, rooms), Err((10, 0)));
     }
 }
@@ -173,6 +181,58 @@ fn a_wrong_entry_names_the_lowest_node() {
     let two = [(2, entry(3, 27), 99), (2, entry(1, 19), 99)];
     assert_eq!(refused(&two, &[2]), (24, 1));
     assert_eq!(refused(&[(1, link(5, 5), 2)], &[1]), (24, 2));
+}
+
+/// Where a mark would stand there is a zero: any other number is 22, also the
+/// right marks of nodes 1 to 3, which are 7.
+#[test]
+fn a_mark_in_an_entry_is_filler() {
+    for x in 0..5 {
+        for value in (1..8).chain([8, 128, 255]) {
+            assert_eq!(refused(&[(2, entry(x, 3), value)], &[2]), (22, 2));
+            assert_eq!(refused(&[(2, entry(x, 3), value)], &[]), (21, 2));
+        }
+    }
+    let all = [1, 2, 3].map(|x| (2, entry(x, 3), 7));
+    assert_eq!(refused(&all, &[2]), (22, 2));
+}
+
+/// A mark with every other fault: what comes before it is told, and it is told
+/// before what comes after.
+#[test]
+fn a_mark_among_the_other_faults() {
+    let told = |changes: &[(usize, usize, u8)], corrected: &[usize]| {
+        let marked = [&[(2, entry(1, 3), 7)][..], changes].concat();
+        refused(&marked, corrected)
+    };
+    assert_eq!(told(&[(0, 6, 0)], &[2]), (21, 0));
+    assert_eq!(told(&[(1, 6, 0)], &[2]), (21, 1));
+    assert_eq!(told(&[(0, 1, 2)], &[0, 2]), (22, 0));
+    assert_eq!(told(&[(1, 1, 2)], &[1, 2]), (22, 1));
+    assert_eq!(told(&[(0, 9, 0)], &[0, 2]), (1, 0));
+    assert_eq!(told(&[(0, 10, 9)], &[0, 2]), (2, 0));
+    assert_eq!(told(&[(0, 13, 5)], &[0, 2]), (3, 0));
+    assert_eq!(told(&[(0, 14, 1)], &[0, 2]), (4, 0));
+    assert_eq!(told(&[(0, 9, 19)], &[0, 2]), (20, 0));
+    for (at, value) in [
+        (link(3, 3), 5),
+        (link(4, 7), 2),
+        (link(6, 7), 0),
+        (link(5, 5), 1),
+    ] {
+        assert_eq!(told(&[(1, at, value)], &[1, 2]), (22, 2));
+    }
+    let cycle = [(2, entry(2, 1), 5), (2, entry(3, 1), 5)];
+    assert_eq!(told(&cycle, &[2]), (22, 2));
+    for at in [entry(1, 2), entry(1, 5), entry(1, 19), entry(0, 27)] {
+        assert_eq!(told(&[(2, at, 99)], &[2]), (22, 2));
+    }
+    let mut file = harbour_file();
+    file[1_024 + entry(1, 3)] = 7;
+    correct(&mut file, 2);
+    assert_eq!(answer_with(&file, [0, 0, 0]), Err((22, 2)));
+    assert_eq!(answer(&file[..1_535]), Err((20, 0)));
+    assert_eq!(answer(&[file, vec![0; 512]].concat()), Err((20, 0)));
 }
 
 #[test]
@@ -218,10 +278,10 @@ fn the_order_of_a_file() {
     let mut file = harbour_file();
     file[1_024 + entry(1, 27)] = 9;
     correct(&mut file, 2);
-    assert_eq!(answer_with(&file, [28, 5, 34]), Err((10, 0)));
+    assert_eq!(answer_with(&file, [28, 5, 49]), Err((10, 0)));
     file[512 + link(5, 5)] = 1;
     correct(&mut file, 1);
-    assert_eq!(answer_with(&file, [28, 5, 34]), Err((9, 5)));
+    assert_eq!(answer_with(&file, [28, 5, 49]), Err((9, 5)));
 }
 
 /// Harbour with a withdrawn link 1-4. Its block's words come to 4C01 + 1 + 8,
@@ -284,7 +344,7 @@ fn writer_then_reader() {
         let mut file = vec![0; 32_256];
         let length = write(&sound.lend(), depth, &mut file).unwrap();
         let (mut links, mut parents) = (vec![7; 4 * m], vec![7; n]);
-        let (mut row, mut right) = (vec![7; 7 * n], vec![0; 7 * n]);
+        let (mut row, mut right) = (vec![7; 10 * n], vec![0; 10 * n]);
         let said = read(&file[..length], &mut links, &mut parents, &mut row).unwrap();
         assert_eq!((said.n, said.m), (n, m));
         assert_eq!((said.root, said.depth), (sound.root, depth));

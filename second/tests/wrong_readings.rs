@@ -15,9 +15,9 @@ use second::table::table;
 /// that every run goes through.
 fn entry(rows: &Rows, depth: u16, x: usize) -> Vec<u64> {
     assert!(small().iter().any(|named| named.rows == *rows));
-    let mut row = vec![7; 7 * rows.parents.len()];
+    let mut row = vec![7; 10 * rows.parents.len()];
     table(&rows.lend(), depth, &mut row).unwrap();
-    row[7 * x..7 * x + 7].to_vec()
+    row[10 * x..10 * x + 10].to_vec()
 }
 
 /// Harbour's candidates for node 1: links 3 and 4.
@@ -198,7 +198,7 @@ fn crossing_by_ends(rows: &Rows, x: usize) -> usize {
 fn the_tree_link_is_known_by_its_number_on_two_nodes() {
     let rows = rows(&[65_535, 0], &[[0, 1, 5], [1, 0, 7]], 0);
     assert_eq!(crossing_by_ends(&rows, 1), 0);
-    assert_eq!(entry(&rows, WHOLE, 1), [1, 1, 1, 1, 7, 2, 7]);
+    assert_eq!(entry(&rows, WHOLE, 1), [1, 1, 1, 1, 7, 2, 7, 0, 0, 0]);
 }
 
 /// Wrong: a node with no candidate is a bridge.

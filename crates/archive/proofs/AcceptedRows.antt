@@ -13,12 +13,14 @@ use Rattle.edition.specs.declared.Verdict.the-variants.{Taken, Refused}
 use Rattle.edition.specs.declared.Why.the-variants.{NoRoom}
 use Rattle.rows.proofs.Refusing.{head-taken, rest-taken, if-taken}
 use Rattle.rows.proofs.Tests.{or3-false}
-use Rattle.entries.specs.Row.{entriesIn, pastEntries}
+use Rattle.entries.specs.Row.{entriesIn, entryAt, pastEntries}
 use Rattle.network.specs.Network.{linksIn, pastLinks}
 use Rattle.sound.specs.Sound.{netVerdict}
 use Rattle.sound.proofs.Sounds.{sound}
 use Rattle.sound.proofs.Holding.{root-in}
+use Rattle.swap.specs.Entry.{entry}
 use Rattle.table.specs.Table.{table}
+use Rattle.table.proofs.Whole.{table-entry}
 use Rattle.archive.specs.declared.Header.{Header}
 use Rattle.archive.specs.declared.ReadAnswer.the-variants.{Is, Not}
 use Rattle.archive.specs.Reader.{nodesRead, linksRead, headRead, linksHeld, parentsHeld, netRead, Rows, tooShort, headVerdict, restVerdict}
@@ -97,6 +99,13 @@ module _ (file links parents entries : List ℕ) (v : Verdict) (is : v ≡ readV
       × (entries ≡ rowsRead file (record { links = links; parents = parents; entries = entries }) .entries)
   unfolding readAnswer rowsRead
   read-refused why t = (rw (← is, t), rw (← is, t), rw (← is, t), rw (← is, t))
+
+-- of an accepted file, the entry read for each node is that of its network, the marks that no file stores among its numbers
+pub entry-read :
+    (file : List ℕ) (rows : Rows)
+    → readVerdict file rows ≡ Taken → (x : ℕ) → x < netRead file .nodes → entryAt (rowsRead file rows .entries) x ≡ entry (netRead file) x
+unfolding rowsRead
+entry-read file rows t x l = rw t (table-entry (netRead file) (pastEntries (nodesRead file) (rows .entries)) x l)
 
 -- no file is taken where the rows are empty: a network has a node
 abbrev unlent : Rows

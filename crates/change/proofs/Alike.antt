@@ -15,7 +15,7 @@ use Rattle.rows.proofs.Counting.{some-cong}
 use Rattle.rows.proofs.Tests.{clash}
 use Rattle.network.specs.Network.{Net}
 use Rattle.tree.specs.Tree.{treeOf}
-use Rattle.swap.specs.Swap.{innerEnd, crosses, within, candidate, cost, costOf, before, best}
+use Rattle.swap.specs.Swap.{innerEnd, lowerMark, crosses, within, candidate, cost, costOf, before, best}
 use Rattle.swap.specs.Entry.{crossed, hasCandidate, state, priced, swapOf, entry}
 use Rattle.swap.proofs.Choosing.{best-by}
 
@@ -54,6 +54,14 @@ module _ (x : ℕ) (g h : Net) (a : SameFor x g h) where
         | neither p q ↦ clash c (rw p)
       ]
 
+  mark-same : (k : ℕ) → candidate h x k ≡ true → lowerMark (treeOf h) x (h .link k) ≡ lowerMark (treeOf g) x (g .link k)
+  unfolding candidate
+  mark-same k c =
+      elim (a .link k) [
+        | same e ↦ λ i. lowerMark (a .tree i) x (e i)
+        | neither p q ↦ clash c (rw p)
+      ]
+
   before-same : (s : Measure) (e f : ℕ) → candidate h x e ≡ true → candidate h x f ≡ true → before s h x e f ≡ before s g x e f
   unfolding before
   before-same s e f c d = rw (cost-same s e c, cost-same s f d)
@@ -72,7 +80,7 @@ module _ (x : ℕ) (g h : Net) (a : SameFor x g h) where
     where
       go : {f : Found} → Stands (candidate h x) (before s h x) (h .links) f → priced s h x f ≡ priced s g x f
       go nobody = refl
-      go (somebody {b} l m) = λ i. record { link = b; cost = cost-same s b m i }
+      go (somebody {b} l m) = λ i. record { link = b; cost = cost-same s b m i; lower = mark-same b m i }
 
   state-same : state h x ≡ state g x
   unfolding state crossed hasCandidate

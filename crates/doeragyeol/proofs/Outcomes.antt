@@ -10,9 +10,9 @@ use Rattle.table.specs.Table.{tableVerdict, tableRow}
 use lib.ListN.{length}
 use Rattle.edition.proofs.Only.{One, one}
 
--- `doeragyeol::doeragyeol_version_2`
-pub one-doeragyeol-version-2 : One (version)
-one-doeragyeol-version-2 = one _
+-- `doeragyeol::doeragyeol_version_3`
+pub one-doeragyeol-version-3 : One (version)
+one-doeragyeol-version-3 = one _
 
 -- `doeragyeol::doeragyeol_check`
 pub one-doeragyeol-check :

@@ -28,7 +28,7 @@ use map::MapAnswer;
 use sound::Checked;
 
 // The version of the interface: what the header declares. A landing that changes that raises it, here and in the name below.
-const VERSION: u32 = 2;
+const VERSION: u32 = 3;
 
 // The word of a call that is not refused.
 const DONE: u32 = 0;
@@ -129,7 +129,7 @@ fn put_header(row: &mut [u64], head: Header)
 
 // The version of the interface. The name ends with it, so that a caller made for another version does not link.
 #[no_mangle]
-pub extern "C" fn doeragyeol_version_2() -> u32
+pub extern "C" fn doeragyeol_version_3() -> u32
     ensures { λ r. ⌜ r ≡ version ⌝ }
 {
     VERSION

@@ -1,4 +1,4 @@
--- An entry: its states, one without links and costs, its swap link under a measure. Assumes nothing.
+-- An entry: its states, one without links, costs and marks, its swap link under a measure. Assumes nothing.
 use Prim.Native.Nat.{ℕ}
 use Rattle.edition.specs.declared.Swap.{Swap}
 use Rattle.edition.specs.declared.Entry.{Entry}
@@ -22,11 +22,19 @@ noneState = 2
 abbrev pub bridgeState : ℕ
 bridgeState = 3
 
--- No swap link: the link is 65,535 and the cost 0.
-abbrev pub noSwap : Swap
-noSwap = record { link = noLink; cost = 0 }
+-- The mark of a link's first end.
+abbrev pub firstEnd : ℕ
+firstEnd = 0
 
--- An entry that has no links and costs.
+-- The mark of its second end.
+abbrev pub secondEnd : ℕ
+secondEnd = 1
+
+-- No swap link: the link is 65,535, the cost 0 and the mark 0.
+abbrev pub noSwap : Swap
+noSwap = record { link = noLink; cost = 0; lower = 0 }
+
+-- An entry that has no links, costs and marks.
 abbrev pub blank : ℕ → Entry
 blank state = record { state = state; sum = noSwap; incr = noSwap; max = noSwap }
 

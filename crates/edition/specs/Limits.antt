@@ -57,7 +57,7 @@ linkWidth = 4
 
 -- Numbers in an entry's record.
 abbrev pub entryWidth : ℕ
-entryWidth = 7
+entryWidth = 10
 
 -- Numbers in the longest row of links.
 abbrev pub linkRoom : ℕ

@@ -71,10 +71,11 @@ pub enum Measure {
     Max,
 }
 
-// A swap link and its cost under one measure.
+// A swap link, its cost under one measure, and the mark of its lower end: 0 the link's first end, 1 its second.
 pub struct Swap {
     pub link: u64,
     pub cost: u64,
+    pub lower: u64,
 }
 
 // An entry of the table: the state of a node's tree link, and its swap link under each measure.
@@ -111,6 +112,11 @@ impl Edition {
     pub const SERVED: u16 = 1;
 
     pub const WITHDRAWN: u16 = 0;
+
+    // The marks of a link's ends.
+    pub const FIRST: u64 = 0;
+
+    pub const SECOND: u64 = 1;
 
     // The states of an entry.
     pub const ROOT: u64 = 0;
@@ -180,17 +186,18 @@ impl Edition {
         Edition::NO_NODE
     }
 
-    // No swap link: the mark and a cost of 0.
+    // No swap link: the number of no link, a cost of 0 and the mark 0.
     pub fn no_swap() -> Swap
         ensures { λ r. ⌜ r ≡ noSwap ⌝ }
     {
         Swap {
             link: Edition::no_link() as u64,
             cost: 0,
+            lower: 0,
         }
     }
 
-    // An entry without links and costs.
+    // An entry without links, costs and marks.
     pub fn blank_entry(state: u64) -> Entry
         ensures { λ r. ⌜ r ≡ blank state ⌝ }
     {
@@ -226,7 +233,7 @@ impl Memory {
     // Numbers a record: a link's, an entry's.
     pub const LINK: usize = 4;
 
-    pub const ENTRY: usize = 7;
+    pub const ENTRY: usize = 10;
 
     // Numbers of the longest rows: of links, of entries.
     pub const LINK_ROW: usize = Memory::LINKS * Memory::LINK;

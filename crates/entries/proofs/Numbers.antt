@@ -1,7 +1,7 @@
 -- The numbers of an entry, where they stand in a row. Assumes nothing.
 use mathlib.Core.Path.{_≡_, sym, ap, _∙_}
 use mathlib.Core.List.{List, []}
-use Prim.Native.Nat.{ℕ, _+_, _*_, _<_, _≤_}
+use Prim.Native.Nat.{ℕ, suc, _+_, _*_, _<_, _≤_}
 use native.Mathlib.Omega.{arith}
 use lib.ListN.{getD, drop, length, drop-of-length-le}
 use borrow.Author.Tests.{lt-ltb, le-ltb}
@@ -11,6 +11,10 @@ use Rattle.rows.specs.Records.{withRecord, pastRecords}
 use Rattle.rows.proofs.Put as put
 use lib.Seq.{sets}
 use Rattle.entries.specs.Row.{entryRow, entriesIn, standing, entryFrom, entryAt, putEntry, pastEntries}
+
+-- the last place of a record, from its first
+pub add-nine : (n : ℕ) → n + 9 ≡ suc (suc (suc (suc (suc (suc (suc (suc (suc n))))))))
+add-nine n = omega arith
 
 module _ (row : List ℕ) (x : ℕ) where
   pub entry-none : entriesIn row ≤ x → entryFrom [] ≡ entryAt row x
@@ -33,12 +37,12 @@ module _ (row : List ℕ) (x : ℕ) where
           state =
               getD row (x * entryWidth) 0;
           sum =
-              record { link = getD row (x * entryWidth + 1) 0; cost = getD row (x * entryWidth + 4) 0 };
+              record { link = getD row (x * entryWidth + 1) 0; cost = getD row (x * entryWidth + 4) 0; lower = getD row (x * entryWidth + 7) 0 };
           incr =
-              record { link = getD row (x * entryWidth + 2) 0; cost = getD row (x * entryWidth + 5) 0 };
+              record { link = getD row (x * entryWidth + 2) 0; cost = getD row (x * entryWidth + 5) 0; lower = getD row (x * entryWidth + 8) 0 };
           max =
               record
-              { link = getD row (x * entryWidth + 3) 0; cost = getD row (x * entryWidth + 6) 0 };
+              { link = getD row (x * entryWidth + 3) 0; cost = getD row (x * entryWidth + 6) 0; lower = getD row (x * entryWidth + 9) 0 };
         })
         (entryAt row x)
     unfolding entryAt entryFrom
@@ -46,9 +50,9 @@ module _ (row : List ℕ) (x : ℕ) where
         λ i.
         record {
           state = zeroth i;
-          sum = record { link = number 1 (omega arith) i; cost = number 4 (omega arith) i };
-          incr = record { link = number 2 (omega arith) i; cost = number 5 (omega arith) i };
-          max = record { link = number 3 (omega arith) i; cost = number 6 (omega arith) i };
+          sum = record { link = number 1 (omega arith) i; cost = number 4 (omega arith) i; lower = number 7 (omega arith) i };
+          incr = record { link = number 2 (omega arith) i; cost = number 5 (omega arith) i; lower = number 8 (omega arith) i };
+          max = record { link = number 3 (omega arith) i; cost = number 6 (omega arith) i; lower = number 9 (omega arith) i };
         }
 
     pub put-stored : (e : Entry) → sets row (x * entryWidth) (entryRow e) ≡ putEntry row x e

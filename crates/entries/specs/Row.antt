@@ -14,19 +14,20 @@ entriesIn row = recordsIn entryWidth row
 unfoldable pub standing : List ℕ → ℕ → List ℕ
 standing row x = recordIn entryWidth row x
 
--- The numbers of an entry's record: state, links for sum, incr and max, costs for sum, incr and max.
+-- The numbers of an entry's record: state; links, costs and marks of the lower end, each for sum, incr and max.
 unfoldable pub entryRow : Entry → List ℕ
 entryRow e =
-    e .state ∷ e .sum .link ∷ e .incr .link ∷ e .max .link ∷ e .sum .cost ∷ e .incr .cost ∷ e .max .cost ∷ []
+    e .state ∷ e .sum .link ∷ e .incr .link ∷ e .max .link ∷ e .sum .cost ∷ e .incr .cost ∷ e .max .cost
+    ∷ e .sum .lower ∷ e .incr .lower ∷ e .max .lower ∷ []
 
 -- The entry that the numbers of a record are.
 unfoldable pub entryFrom : List ℕ → Entry
 entryFrom r =
     record {
       state = getD r 0 0;
-      sum = record { link = getD r 1 0; cost = getD r 4 0 };
-      incr = record { link = getD r 2 0; cost = getD r 5 0 };
-      max = record { link = getD r 3 0; cost = getD r 6 0 };
+      sum = record { link = getD r 1 0; cost = getD r 4 0; lower = getD r 7 0 };
+      incr = record { link = getD r 2 0; cost = getD r 5 0; lower = getD r 8 0 };
+      max = record { link = getD r 3 0; cost = getD r 6 0; lower = getD r 9 0 };
     }
 
 -- The entry of x in a row; every number is 0 where the row holds none.

@@ -19,7 +19,11 @@ pub fn entries_in(row: &[u64]) -> usize
 fn no_entry() -> Entry
     ensures { λ r. ⌜ r ≡ entryFrom [] ⌝ }
 {
-    let none = Swap { link: 0, cost: 0 };
+    let none = Swap {
+        link: 0,
+        cost: 0,
+        lower: 0,
+    };
     Entry {
         state: 0,
         sum: none,
@@ -37,14 +41,17 @@ pub fn entry_there(row: &[u64], x: usize) -> Entry
     let sum = Swap {
         link: row[at + 1],
         cost: row[at + 4],
+        lower: row[at + 7],
     };
     let incr = Swap {
         link: row[at + 2],
         cost: row[at + 5],
+        lower: row[at + 8],
     };
     let max = Swap {
         link: row[at + 3],
         cost: row[at + 6],
+        lower: row[at + 9],
     };
     Entry {
         state: row[at],
@@ -77,6 +84,9 @@ pub fn put_there(row: &mut [u64], x: usize, e: Entry)
     row[at + 4] = e.sum.cost;
     row[at + 5] = e.incr.cost;
     row[at + 6] = e.max.cost;
+    row[at + 7] = e.sum.lower;
+    row[at + 8] = e.incr.lower;
+    row[at + 9] = e.max.lower;
 }
 
 // Writes the entry of node x; nothing where the row holds none.

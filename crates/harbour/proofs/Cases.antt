@@ -5,6 +5,7 @@ use mathlib.Core.List.{List, [], _∷_}
 use Rattle.rows.proofs.Tests.{and-left, and-right}
 use Rattle.rows.proofs.Listed.{same-equal}
 use Rattle.harbour.specs.Harbour.{Case, _gives_, links, parents, harbour, alone, rootEntry, bridge, one, two, three, right, nine}
+use Rattle.harbour.specs.Harbour.{linksTurned, turned, oneTurned, threeTurned}
 use Rattle.harbour.specs.Harbour.{linksSeven, linksNine, twoSeven, oneNine, twoNine, room, answer, cases, holds}
 use Rattle.edition.specs.Refusals.{numberOf, said}
 use Rattle.rows.specs.Count.{sumTo, maxTo, someTo, rowsTo, onlyIf, rowWith}
@@ -14,7 +15,7 @@ use Rattle.network.specs.Network.{linkRow, linkFrom, linkIn, putLink, netOf, is
 use Rattle.network.specs.Records.{badNodes, badLinks, badRoot, badDepth, sizeVerdict, badEnds, badMark, unfit, badParent}
 use Rattle.tree.specs.Tree.{treeOf, climb, route, arrives, hasRoute, dist, under, hops, wayUp, meet, apart, onPath, inside}
 use Rattle.sound.specs.Sound.{noRoute, keepsShort, short, notShort, recordVerdict, netVerdict, checked}
-use Rattle.swap.specs.Swap.{innerEnd, outerEnd, crosses, within, candidate, newDist, cost, costOf, before, best}
+use Rattle.swap.specs.Swap.{innerEnd, outerEnd, lowerMark, crosses, within, candidate, newDist, cost, costOf, before, best}
 use Rattle.swap.specs.Entry.{crossed, hasCandidate, state, priced, swapOf, entry}
 use Rattle.rows.specs.Records.{recordIn, withRecord, pastRecords}
 use Rattle.entries.specs.Row.{entryRow, standing, pastEntries}
@@ -27,10 +28,10 @@ unfolding numberOf entryRow sumTo maxTo someTo rowsTo onlyIf rowWith orHere firs
     refuseIf firstly has upTo firstOf total same recordIn withRecord pastRecords standing pastEntries linkRow linkFrom
     linkIn putLink netOf inService touches otherEnd badNodes badLinks badRoot badDepth sizeVerdict badEnds badMark unfit
     badParent treeOf climb route arrives hasRoute dist under hops wayUp meet apart onPath noRoute keepsShort short
-    notShort recordVerdict netVerdict checked innerEnd outerEnd crosses within candidate newDist inside cost costOf before
+    notShort recordVerdict netVerdict checked innerEnd outerEnd lowerMark crosses within candidate newDist inside cost costOf before
     best crossed hasCandidate state priced swapOf entry table tableVerdict tableRow isAsked freshAt
     freshRow unprotected word mapOf countUnprotected lowest mapVerdict mapRow isParent breaks changeVerdict setLink mendedAt mended
-    changed links parents harbour alone rootEntry bridge one two three right nine linksSeven linksNine twoSeven
+    changed links parents harbour linksTurned turned oneTurned threeTurned alone rootEntry bridge one two three right nine linksSeven linksNine twoSeven
     oneNine twoNine said room answer cases holds
 harbour-cases = refl
 

@@ -34,29 +34,52 @@ parents = noLink ∷ 0 ∷ 1 ∷ 2 ∷ 6 ∷ []
 unfoldable pub harbour : ℕ → Net
 harbour depth = netOf links parents (record { root = 0; depth = depth })
 
+-- The row of links with link 4 recorded from its other end.
+unfoldable pub linksTurned : List ℕ
+linksTurned =
+    0 ∷ 1 ∷ 2 ∷ 1 ∷
+    1 ∷ 2 ∷ 3 ∷ 1 ∷
+    1 ∷ 3 ∷ 1 ∷ 1 ∷
+    0 ∷ 2 ∷ 6 ∷ 1 ∷
+    3 ∷ 0 ∷ 7 ∷ 1 ∷
+    2 ∷ 3 ∷ 4 ∷ 1 ∷
+    0 ∷ 4 ∷ 9 ∷ 1 ∷ []
+
+-- The Harbour network with these links, at the whole search.
+unfoldable pub turned : Net
+turned = netOf linksTurned parents (harbour wholeSearch .search)
+
 -- One node and no link.
 unfoldable pub alone : Net
 alone = netOf [] (noLink ∷ []) (harbour wholeSearch .search)
 
 -- The root's entry.
 unfoldable pub rootEntry : List ℕ
-rootEntry = 0 ∷ noLink ∷ noLink ∷ noLink ∷ 0 ∷ 0 ∷ 0 ∷ []
+rootEntry = 0 ∷ noLink ∷ noLink ∷ noLink ∷ 0 ∷ 0 ∷ 0 ∷ 0 ∷ 0 ∷ 0 ∷ []
 
 -- A bridge's entry: node 4's, P4.
 unfoldable pub bridge : List ℕ
-bridge = 3 ∷ noLink ∷ noLink ∷ noLink ∷ 0 ∷ 0 ∷ 0 ∷ []
+bridge = 3 ∷ noLink ∷ noLink ∷ noLink ∷ 0 ∷ 0 ∷ 0 ∷ 0 ∷ 0 ∷ 0 ∷ []
 
 -- The entry of node 1 at the whole search, P1.
 unfoldable pub one : List ℕ
-one = 1 ∷ 3 ∷ 4 ∷ 3 ∷ 25 ∷ 6 ∷ 10 ∷ []
+one = 1 ∷ 3 ∷ 4 ∷ 3 ∷ 25 ∷ 6 ∷ 10 ∷ 1 ∷ 1 ∷ 1 ∷ []
 
 -- The entry of node 2, P2.
 unfoldable pub two : List ℕ
-two = 1 ∷ 3 ∷ 3 ∷ 3 ∷ 6 ∷ 1 ∷ 6 ∷ []
+two = 1 ∷ 3 ∷ 3 ∷ 3 ∷ 6 ∷ 1 ∷ 6 ∷ 1 ∷ 1 ∷ 1 ∷ []
 
 -- The entry of node 3, P3.
 unfoldable pub three : List ℕ
-three = 1 ∷ 4 ∷ 4 ∷ 4 ∷ 7 ∷ 4 ∷ 7 ∷ []
+three = 1 ∷ 4 ∷ 4 ∷ 4 ∷ 7 ∷ 4 ∷ 7 ∷ 1 ∷ 1 ∷ 1 ∷ []
+
+-- The entry of node 1 where link 4 is recorded from its other end.
+unfoldable pub oneTurned : List ℕ
+oneTurned = 1 ∷ 3 ∷ 4 ∷ 3 ∷ 25 ∷ 6 ∷ 10 ∷ 1 ∷ 0 ∷ 1 ∷ []
+
+-- The entry of node 3 there.
+unfoldable pub threeTurned : List ℕ
+threeTurned = 1 ∷ 4 ∷ 4 ∷ 4 ∷ 7 ∷ 4 ∷ 7 ∷ 0 ∷ 0 ∷ 0 ∷ []
 
 -- The table of the whole search.
 unfoldable pub right : List ℕ
@@ -64,7 +87,7 @@ right = rootEntry ++ one ++ two ++ three ++ bridge
 
 -- An entry whose every number is wrong.
 unfoldable pub nine : List ℕ
-nine = 9 ∷ 9 ∷ 9 ∷ 9 ∷ 9 ∷ 9 ∷ 9 ∷ []
+nine = 9 ∷ 9 ∷ 9 ∷ 9 ∷ 9 ∷ 9 ∷ 9 ∷ 9 ∷ 9 ∷ 9 ∷ []
 
 -- The row of links after P7: link 5 has length 2.
 unfoldable pub linksSeven : List ℕ
@@ -90,15 +113,15 @@ linksNine =
 
 -- The entry of node 2 after P7.
 unfoldable pub twoSeven : List ℕ
-twoSeven = 1 ∷ 5 ∷ 5 ∷ 5 ∷ 5 ∷ 0 ∷ 5 ∷ []
+twoSeven = 1 ∷ 5 ∷ 5 ∷ 5 ∷ 5 ∷ 0 ∷ 5 ∷ 0 ∷ 0 ∷ 0 ∷ []
 
 -- The entry of node 1 after P9.
 unfoldable pub oneNine : List ℕ
-oneNine = 1 ∷ 4 ∷ 4 ∷ 4 ∷ 26 ∷ 6 ∷ 11 ∷ []
+oneNine = 1 ∷ 4 ∷ 4 ∷ 4 ∷ 26 ∷ 6 ∷ 11 ∷ 1 ∷ 1 ∷ 1 ∷ []
 
 -- The entry of node 2 after P9.
 unfoldable pub twoNine : List ℕ
-twoNine = 1 ∷ 5 ∷ 5 ∷ 5 ∷ 7 ∷ 2 ∷ 7 ∷ []
+twoNine = 1 ∷ 5 ∷ 5 ∷ 5 ∷ 7 ∷ 2 ∷ 7 ∷ 0 ∷ 0 ∷ 0 ∷ []
 
 -- What is asked.
 pub data Ask : Type 0 where
@@ -130,7 +153,7 @@ pub data Case : Type 0 where
   _gives_ : Ask → List ℕ → Case
 
 infix 5 _gives_
--- P1 to P12.
+-- P1 to P12, and where the marks differ between measures.
 unfoldable pub cases : List Case
 cases =
     -- P1 to P4
@@ -141,7 +164,7 @@ cases =
     (tableOf (harbour wholeSearch) gives (0 ∷ 0 ∷ right)) ∷
     (mapOf (harbour wholeSearch) gives (0 ∷ 0 ∷ 16 ∷ 0 ∷ 0 ∷ 0 ∷ 0 ∷ 0 ∷ 0 ∷ 0 ∷ 1 ∷ 4 ∷ [])) ∷
     -- P5
-    (entryAt 0 1 gives (2 ∷ noLink ∷ noLink ∷ noLink ∷ 0 ∷ 0 ∷ 0 ∷ [])) ∷
+    (entryAt 0 1 gives (2 ∷ noLink ∷ noLink ∷ noLink ∷ 0 ∷ 0 ∷ 0 ∷ 0 ∷ 0 ∷ 0 ∷ [])) ∷
     (mapOf (harbour 0) gives (0 ∷ 0 ∷ 18 ∷ 0 ∷ 0 ∷ 0 ∷ 0 ∷ 0 ∷ 0 ∷ 0 ∷ 2 ∷ 1 ∷ [])) ∷
     -- P6
     (tableOf (harbour 1) gives (0 ∷ 0 ∷ right)) ∷
@@ -159,7 +182,9 @@ cases =
     (tableOf alone gives (0 ∷ 0 ∷ rootEntry)) ∷
     (mapOf alone gives (0 ∷ 0 ∷ 0 ∷ 0 ∷ 0 ∷ 0 ∷ 0 ∷ 0 ∷ 0 ∷ 0 ∷ 0 ∷ noNode ∷ [])) ∷
     -- P12
-    (change 7 1 2 right gives (11 ∷ 0 ∷ links ++ right)) ∷ []
+    (change 7 1 2 right gives (11 ∷ 0 ∷ links ++ right)) ∷
+    -- request 2026-01
+    (tableOf turned gives (0 ∷ 0 ∷ rootEntry ++ oneTurned ++ two ++ threeTurned ++ bridge)) ∷ []
 
 -- Does every case hold?
 unfoldable pub holds : List Case → Bool

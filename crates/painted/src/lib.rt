@@ -5,6 +5,7 @@ use archive::Header;
 use archive::ReadAnswer;
 use archive::WriteAnswer;
 use edition::Change;
+use edition::Edition;
 use edition::Entry;
 use edition::Memory;
 use edition::Refusal;
@@ -47,7 +48,7 @@ fn answered(answer: Answer) -> u64 {
 
 // A swap link as a number.
 fn swapped(swap: Swap) -> u64 {
-    both(swap.link, swap.cost)
+    both(both(swap.link, swap.cost), swap.lower)
 }
 
 // An entry as a number.
@@ -271,7 +272,11 @@ pub extern "C" fn painted_put_entry(
     link: u64,
     cost: u64,
 ) -> u64 {
-    let swap = Swap { link, cost };
+    let swap = Swap {
+        link,
+        cost,
+        lower: Edition::FIRST,
+    };
     let entry = Entry {
         state,
         sum: swap,

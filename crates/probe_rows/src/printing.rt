@@ -35,7 +35,7 @@ fn put_three(out: &mut [u8], at: usize, a: u64, b: u64, c: u64) -> usize
     output::put_field(out, second, c)
 }
 
-// Prints the entry line of node u: its state, the links and then the costs for sum, incr and max.
+// Prints the entry line of node u: its state, the links, the costs and then the marks of the lower ends, for sum, incr and max.
 pub fn put_entry(out: &mut [u8], at: usize, u: usize, entry: Entry) -> usize
     ensures { λ r. ⌜ r ≤ length (now (out .exit)) ⌝ }
 {
@@ -46,7 +46,8 @@ pub fn put_entry(out: &mut [u8], at: usize, u: usize, entry: Entry) -> usize
     let told = output::put_field(out, named, entry.state);
     let linked = put_three(out, told, sum.link, incr.link, max.link);
     let priced = put_three(out, linked, sum.cost, incr.cost, max.cost);
-    output::put_newline(out, priced)
+    let marked = put_three(out, priced, sum.lower, incr.lower, max.lower);
+    output::put_newline(out, marked)
 }
 
 // Prints the entry lines of the first n nodes; none where n is over the limit on parents.

@@ -1,6 +1,7 @@
 pub mod Choosing
 pub mod Stating
 pub mod Costing
+pub mod Ends
 pub mod Bounding
 pub mod Folding
 pub mod Reaching

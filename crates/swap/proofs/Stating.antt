@@ -1,5 +1,5 @@
 -- States: 3 exactly where nothing crosses, 2 exactly where something crosses and nothing is within the depth, 1 exactly where a
--- link is a candidate; only state 1 has links and costs, and then under every measure. Assumes nothing.
+-- link is a candidate; only state 1 has links, costs and marks, and then under every measure. Assumes nothing.
 use mathlib.Core.Path.{_≡_, refl, sym, subst, _∙_}
 use mathlib.Core.Bool.{Bool, true, false, cond}
 use Prim.Native.Nat.{ℕ, _<_}
@@ -18,7 +18,7 @@ use Rattle.rows.proofs.Tests.{clash, and-left}
 use Rattle.rows.proofs.Best.{some-none, some-one, one-some}
 use Rattle.network.specs.Network.{Net}
 use Rattle.tree.specs.Tree.{treeOf}
-use Rattle.swap.specs.Swap.{crosses, candidate, costOf, best}
+use Rattle.swap.specs.Swap.{lowerMark, crosses, candidate, costOf, best}
 use Rattle.swap.specs.Entry.{crossed, hasCandidate, state, priced, swapOf, entry}
 use Rattle.swap.proofs.Choosing.{Chosen, chosen, nothing-stands, nothing-found}
 
@@ -147,7 +147,7 @@ module _ (g : Net) (x : ℕ) where
       go true e = rw e (sym (eqb-true (state g x) swapState e))
       go false e = rw e
 
-  -- only state 1 has links and costs: in every other state the three links are 65,535 and the three costs 0
+  -- only state 1 has links, costs and marks: in every other state the three links are 65,535, the three costs 0 and the three marks 0
   pub entry-blank : (state g x ≡ swapState → ⊥) → entry g x ≡ blank (state g x)
   unfolding entry
   entry-blank n = rw (ne-eqb (state g x) swapState n)
@@ -203,32 +203,45 @@ module _ (g : Net) (x : ℕ) where
   own-swap Incr q = rw (eq-eqb (state g x) swapState q)
   own-swap Max q = rw (eq-eqb (state g x) swapState q)
 
-  swap-holds : (s : Measure) → state g x ≡ swapState → Chosen s g x (swapOf s g x .link) × (swapOf s g x .cost ≡ costOf s g x (swapOf s g x .link))
+  -- a link that stands in an entry under a measure: the best candidate, its cost, and the mark of its lower end
+  abbrev Holds : Measure → Swap → Type 0
+  Holds s k = Chosen s g x (k .link) × (k .cost ≡ costOf s g x (k .link)) × (k .lower ≡ lowerMark (treeOf g) x (g .link (k .link)))
+
+  swap-holds : (s : Measure) → state g x ≡ swapState → Holds s (swapOf s g x)
   unfolding swapOf priced
   swap-holds s q = go (best s g x) refl
     where
-      go : (f : Found) → best s g x ≡ f → Chosen s g x (priced s g x f .link) × (priced s g x f .cost ≡ costOf s g x (priced s g x f .link))
+      go : (f : Found) → best s g x ≡ f → Holds s (priced s g x f)
       go Nothing e =
           let z = swap-candidate (swap-below q) q in
           clash (z .1 .1) (nothing-stands s g x e (z .0) (z .1 .0))
-      go (At b) e = (chosen s g x b e, refl)
+      go (At b) e = (chosen s g x b e, refl, refl)
 
-  -- what an entry holds in state 1: under each measure its link is the best candidate, and its cost what that link costs
+  -- what an entry holds in state 1: under each measure its link is the best candidate, its cost what that link costs, and its mark
+  -- that of the link's lower end
   pub entry-holds :
       (s : Measure)
       → entry g x .state ≡ swapState
-      → Chosen s g x (swapBy (entry g x) s .link) × (swapBy (entry g x) s .cost ≡ costOf s g x (swapBy (entry g x) s .link))
+      → Chosen s g x (swapBy (entry g x) s .link)
+      × (swapBy (entry g x) s .cost ≡ costOf s g x (swapBy (entry g x) s .link))
+      × (swapBy (entry g x) s .lower ≡ lowerMark (treeOf g) x (g .link (swapBy (entry g x) s .link)))
   entry-holds s q =
       let is = sym entry-state ∙ q in
-      subst (λ (k : Swap). Chosen s g x (k .link) × (k .cost ≡ costOf s g x (k .link))) (sym (own-swap s is)) (swap-holds s is)
+      subst (λ (k : Swap). Holds s k) (sym (own-swap s is)) (swap-holds s is)
 
-  -- and in every other state: its link is 65,535 and its cost 0
-  pub entry-empty : (s : Measure) → (entry g x .state ≡ swapState → ⊥) → (swapBy (entry g x) s .link ≡ noLink) × (swapBy (entry g x) s .cost ≡ 0)
+  -- and in every other state: its link is 65,535, its cost 0 and its mark 0
+  pub entry-empty :
+      (s : Measure)
+      → (entry g x .state ≡ swapState → ⊥)
+      → (swapBy (entry g x) s .link ≡ noLink) × (swapBy (entry g x) s .cost ≡ 0) × (swapBy (entry g x) s .lower ≡ 0)
   entry-empty s n =
       let is = entry-blank (λ q. n (entry-state ∙ q)) in
-      subst (λ (e : Entry). (swapBy e s .link ≡ noLink) × (swapBy e s .cost ≡ 0)) (sym is) (go s)
+      subst (λ (e : Entry). (swapBy e s .link ≡ noLink) × (swapBy e s .cost ≡ 0) × (swapBy e s .lower ≡ 0)) (sym is) (go s)
     where
-      go : (s : Measure) → (swapBy (blank (state g x)) s .link ≡ noLink) × (swapBy (blank (state g x)) s .cost ≡ 0)
-      go Sum = (refl, refl)
-      go Incr = (refl, refl)
-      go Max = (refl, refl)
+      go :
+          (s : Measure)
+          → (swapBy (blank (state g x)) s .link ≡ noLink)
+          × (swapBy (blank (state g x)) s .cost ≡ 0) × (swapBy (blank (state g x)) s .lower ≡ 0)
+      go Sum = (refl, refl, refl)
+      go Incr = (refl, refl, refl)
+      go Max = (refl, refl, refl)

@@ -1,4 +1,4 @@
--- The entry of a node: its state, and under each measure the best candidate and its cost. Assumes nothing.
+-- The entry of a node: its state, and under each measure the best candidate, its cost and the mark of its lower end. Assumes nothing.
 use mathlib.Core.Bool.{Bool, cond}
 use Prim.Native.Nat.{ℕ}
 use lib.Dec.{eqb}
@@ -12,7 +12,7 @@ use Rattle.edition.specs.Entries.{rootState, swapState, noneState, bridgeState,
 use Rattle.rows.specs.Count.{someTo}
 use Rattle.network.specs.Network.{Net}
 use Rattle.tree.specs.Tree.{treeOf}
-use Rattle.swap.specs.Swap.{crosses, candidate, costOf, best}
+use Rattle.swap.specs.Swap.{lowerMark, crosses, candidate, costOf, best}
 
 -- Does some link cross x?
 unfoldable pub crossed : Net → ℕ → Bool
@@ -29,16 +29,17 @@ state g x =
     let other = cond (hasCandidate g x) swapState far in
     cond (eqb x (g .search .root)) rootState other
 
--- The link found with its cost; no link and 0 where nothing is found.
+-- The link found with its cost and the mark of its lower end; no link, 0 and 0 where nothing is found.
 unfoldable pub priced : Measure → Net → ℕ → Found → Swap
 priced s g x Nothing = noSwap
-priced s g x (At e) = record { link = e; cost = costOf s g x e }
+priced s g x (At e) = record { link = e; cost = costOf s g x e; lower = lowerMark (treeOf g) x (g .link e) }
 
--- The best candidate under a measure, with its cost.
+-- The best candidate under a measure, with its cost and the mark of its lower end.
 unfoldable pub swapOf : Measure → Net → ℕ → Swap
 swapOf s g x = priced s g x (best s g x)
 
--- The entry of x: its state, and in state 1 the best candidates and their costs. Only state 1 has links and costs.
+-- The entry of x: its state, and in state 1 the best candidates, their costs and the marks of their lower ends. No other state has
+-- links, costs or marks.
 unfoldable pub entry : Net → ℕ → Entry
 entry g x =
     let own : Entry = record { state = swapState; sum = swapOf Sum g x; incr = swapOf Incr g x; max = swapOf Max g x } in

@@ -6,6 +6,7 @@ use Rattle.edition.specs.declared.Found.{Found}
 use Rattle.edition.specs.declared.Measure.{Measure}
 use Rattle.edition.specs.declared.Measure.the-variants.{Sum, Incr, Max}
 use Rattle.edition.specs.Limits.{wholeSearch}
+use Rattle.edition.specs.Entries.{firstEnd, secondEnd}
 use Rattle.rows.specs.Count.{sumTo, maxTo, someTo}
 use Rattle.rows.specs.First.{firstTo}
 use Rattle.rows.specs.Lists.{differ}
@@ -20,6 +21,10 @@ innerEnd t x l = cond (under t x (l .first)) (l .first) (l .second)
 -- z', of a link that crosses x: its other end.
 unfoldable pub outerEnd : Tree → ℕ → Link → ℕ
 outerEnd t x l = cond (under t x (l .first)) (l .second) (l .first)
+
+-- The mark of z: 0 where it is the link's first end, 1 where it is the second.
+unfoldable pub lowerMark : Tree → ℕ → Link → ℕ
+lowerMark t x l = cond (under t x (l .first)) firstEnd secondEnd
 
 -- Link e crosses x: it is in service, is not the tree link of x, and has exactly one end in T(x).
 unfoldable pub crosses : Tree → ℕ → ℕ → Link → Bool

@@ -1,5 +1,5 @@
 // swapdot FILE [sum|incr|max]: draws the network of a file for Graphviz, with the swap links of one measure, sum where none is
-// named.
+// named, as arrows from their lower ends.
 use archive::Header;
 use archive::ReadAnswer;
 use desk::Desk;
@@ -38,7 +38,11 @@ fn put_title(out: &mut [u8], at: usize, search: Search, measure: Measure) -> usi
     let depth = listing::put_depth(out, named, search.depth);
     let by = output::put(out, depth, b", swap links by ");
     let told = put_measure(out, by, measure);
-    output::put(out, told, b"\";\n    node [shape = circle];\n")
+    output::put(
+        out,
+        told,
+        b", arrows from the end that is cut off\";\n    node [shape = circle];\n",
+    )
 }
 
 // Prints what is said of a node behind its number: its swap link, or that it has none.
@@ -62,13 +66,18 @@ fn put_state(out: &mut [u8], at: usize, entry: Entry, measure: Measure) -> usize
     output::put(out, at, b"\\nbridge\", style = filled, fillcolor = red];\n")
 }
 
-// Prints the line of node x. One without a swap link, which is unprotected, is filled.
-fn put_node(out: &mut [u8], at: usize, entries: &[u64], x: usize, measure: Measure) -> usize {
+// Prints the number of node x and the begin of its label, which has the number too.
+fn put_name(out: &mut [u8], at: usize, x: usize) -> usize {
     let begun = output::put(out, at, b"    ");
     let named = output::put_number(out, begun, x as u64);
     let labelled = output::put(out, named, b" [label = \"");
-    let told = output::put_number(out, labelled, x as u64);
-    put_state(out, told, entries::entry_at(entries, x), measure)
+    output::put_number(out, labelled, x as u64)
+}
+
+// Prints the line of node x. One without a swap link, which is unprotected, is filled.
+fn put_node(out: &mut [u8], at: usize, entries: &[u64], x: usize, measure: Measure) -> usize {
+    let named = put_name(out, at, x);
+    put_state(out, named, entries::entry_at(entries, x), measure)
 }
 
 // Prints the lines of all nodes.
@@ -82,21 +91,24 @@ fn put_nodes(out: &mut [u8], at: usize, entries: &[u64], n: usize, measure: Meas
     waits
 }
 
-// Whether link e is the swap link of node x.
-fn is_swap_of(entries: &[u64], x: usize, e: usize, measure: Measure) -> bool {
+// Whether link e is the swap link of node x and its end with this mark the lower one.
+fn is_lower_of(entries: &[u64], x: usize, e: usize, mark: u64, measure: Measure) -> bool {
     let entry = entries::entry_at(entries, x);
     if entry.state != Edition::SWAP {
         return false;
     }
     let swap = edition::swap_by(entry, measure);
-    swap.link == e as u64
+    if swap.link != e as u64 {
+        return false;
+    }
+    swap.lower == mark
 }
 
-// Whether link e is the swap link of a node.
-fn is_swap(entries: &[u64], n: usize, e: usize, measure: Measure) -> bool {
+// Whether link e is the swap link of a node for which its end with this mark is the lower one.
+fn is_lower(entries: &[u64], n: usize, e: usize, mark: u64, measure: Measure) -> bool {
     let mut x = 0;
     while x < n {
-        if is_swap_of(entries, x, e, measure) {
+        if is_lower_of(entries, x, e, mark, measure) {
             return true;
         }
         x += 1;
@@ -104,7 +116,22 @@ fn is_swap(entries: &[u64], n: usize, e: usize, measure: Measure) -> bool {
     false
 }
 
-// Prints how a link is drawn: a tree link thick, a withdrawn one dotted, a swap link blue, any other thin and grey.
+// Prints how a link outside the tree is drawn, by whether its first end is the lower one for a node, and whether its second is:
+// a swap link blue, as an arrow from its lower end, or both ways; any other grey.
+fn put_spare(out: &mut [u8], at: usize, first: bool, second: bool) -> usize {
+    if first {
+        if second {
+            return output::put(out, at, b"color = blue, dir = both");
+        }
+        return output::put(out, at, b"color = blue, dir = forward");
+    }
+    if second {
+        return output::put(out, at, b"color = blue, dir = back");
+    }
+    output::put(out, at, b"color = grey")
+}
+
+// Prints how a link is drawn: a withdrawn one dotted, a tree link thick, any other thin, as a swap link where it is one.
 fn put_style(
     out: &mut [u8],
     at: usize,
@@ -120,10 +147,9 @@ fn put_style(
     if network::is_parent(parents, e) {
         return output::put(out, at, b"penwidth = 3");
     }
-    if is_swap(entries, parents.len(), e, measure) {
-        return output::put(out, at, b"color = blue");
-    }
-    output::put(out, at, b"color = grey")
+    let first = is_lower(entries, parents.len(), e, Edition::FIRST, measure);
+    let second = is_lower(entries, parents.len(), e, Edition::SECOND, measure);
+    put_spare(out, at, first, second)
 }
 
 // Prints the ends of a link and the begin of its label.

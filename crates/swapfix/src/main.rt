@@ -114,12 +114,15 @@ fn take_lines(
     true
 }
 
-// Whether two swap links and their costs are the same.
+// Whether two swap links, their costs and their lower ends are the same.
 fn is_same_swap(old: Swap, new: Swap) -> bool {
     if old.link != new.link {
         return false;
     }
-    old.cost == new.cost
+    if old.cost != new.cost {
+        return false;
+    }
+    old.lower == new.lower
 }
 
 // Whether two entries are the same.

@@ -8,6 +8,7 @@ use lib.Dec.{eqb}
 use lib.ListN.{length, getD}
 use borrow.Author.Tests.{eqb-true, ne-eqb}
 use Rattle.edition.specs.Limits.{nodeLimit}
+use Rattle.edition.specs.Entries.{firstEnd, secondEnd}
 use Rattle.edition.specs.declared.Search.{Search}
 use Rattle.rows.specs.Lists.{has, upTo, differ}
 use Rattle.rows.proofs.Tests.{clash, either, not-so, and-none, or-swap, or-false}
@@ -22,7 +23,7 @@ use Rattle.survey.specs.Row.{nodesIn, knownAt}
 use Rattle.sound.specs.Surveyed.{Surveyed}
 use Rattle.sound.proofs.Sounds.{Sound}
 use Rattle.sound.proofs.Holding.{first-in, second-in, parent-touches, home}
-use Rattle.swap.specs.Swap.{innerEnd, crosses}
+use Rattle.swap.specs.Swap.{innerEnd, lowerMark, crosses}
 use Rattle.table.proofs.Prefixes.{entry-unmoved, entry-top}
 use Rattle.table.specs.declared.Side.{Side}
 use Rattle.table.specs.Table.{isAsked}
@@ -81,29 +82,34 @@ differ-turn true false = refl
 differ-turn false true = refl
 differ-turn false false = refl
 
--- a link's two ends, in one order or the other
-data Ends (l : Link) : ℕ → ℕ → Type 0 where
-  forth : Ends l (l .first) (l .second)
-  back : Ends l (l .second) (l .first)
+-- a link's two ends with their marks, in one order or the other
+data Ends (l : Link) : ℕ → ℕ → ℕ → ℕ → Type 0 where
+  forth : Ends l (l .first) firstEnd (l .second) secondEnd
+  back : Ends l (l .second) secondEnd (l .first) firstEnd
 
-ends-turn : {l : Link} {y z : ℕ} → Ends l y z → Ends l z y
+ends-turn : {l : Link} {y i z j : ℕ} → Ends l y i z j → Ends l z j y i
 ends-turn forth = back
 ends-turn back = forth
 
-end-in : (g : Net) → Sound g → (e : ℕ) → e < g .links → {y z : ℕ} → Ends (g .link e) y z → y < treeOf g .size
+end-in : (g : Net) → Sound g → (e : ℕ) → e < g .links → {y i z j : ℕ} → Ends (g .link e) y i z j → y < treeOf g .size
 unfolding treeOf
 end-in g s e l forth = first-in g s e l
 end-in g s e l back = second-in g s e l
 
 module _ (t : Tree) where
-  end-differs : {l : Link} {y z : ℕ} → Ends l y z → (x : ℕ) → differ (under t x (l .first)) (under t x (l .second)) ≡ differ (under t x y) (under t x z)
+  end-differs : {l : Link} {y i z j : ℕ} → Ends l y i z j → (x : ℕ) → differ (under t x (l .first)) (under t x (l .second)) ≡ differ (under t x y) (under t x z)
   end-differs forth x = refl
   end-differs {l} back x = differ-turn (under t x (l .first)) (under t x (l .second))
 
-  end-lower : {l : Link} {y z : ℕ} → Ends l y z → (x : ℕ) → under t x y ≡ true → under t x z ≡ false → innerEnd t x l ≡ y
+  end-lower : {l : Link} {y i z j : ℕ} → Ends l y i z j → (x : ℕ) → under t x y ≡ true → under t x z ≡ false → innerEnd t x l ≡ y
   unfolding innerEnd
   end-lower forth x p q = rw p
   end-lower back x p q = rw q
+
+  end-mark : {l : Link} {y i z j : ℕ} → Ends l y i z j → (x : ℕ) → under t x y ≡ true → under t x z ≡ false → lowerMark t x l ≡ i
+  unfolding lowerMark
+  end-mark forth x p q = rw p
+  end-mark back x p q = rw q
 
 -- has a climb passed v?
 abbrev behind : Tree → Side → ℕ → Bool
@@ -118,7 +124,7 @@ record Apart (t : Tree) (a b : Side) : Type 0 where
 pub record Between (g : Net) (survey asked : List ℕ) (e k : ℕ) (row₀ : List ℕ) (a b : Side) (row : List ℕ) : Type 0 where
   surveyed : Surveyed g survey
   spare : Spare g e k
-  ends : Ends (g .link e) (a .from) (b .from)
+  ends : Ends (g .link e) (a .from) (a .lower) (b .from) (b .lower)
   one : Apart (treeOf g) a b
   two : Apart (treeOf g) b a
   pub size : length row ≡ length row₀
@@ -175,7 +181,7 @@ module _ {g : Net} {search : Search} {asked survey ranks row : List ℕ} {e k : 
       record {
         surveyed = sv;
         spare = h .spare;
-        ends = rw (h .starting .one .from-is, h .starting .two .from-is) forth;
+        ends = rw (h .starting .one .from-is, h .starting .one-mark, h .starting .two .from-is, h .starting .two-mark) forth;
         one = record { carries = own _ _ a (h .starting .one); free = λ v m. clash m (a-none v) };
         two = record { carries = own _ _ b (h .starting .two); free = λ v m. clash m (b-none v) };
         size = refl;
@@ -303,6 +309,7 @@ module _ {g : Net} {survey asked : List ℕ} {e k : ℕ} {row₀ : List ℕ} whe
           cross =
               spare-crosses g (fine (i .surveyed)) e k (i .spare) _ (node-in i) off-root ∙ end-differs (treeOf g) (i .ends) _ ∙ rw (node-on i, off);
           low = end-lower (treeOf g) (i .ends) _ (node-on i) off;
+          marked = end-mark (treeOf g) (i .ends) _ (node-on i) off;
           through-is = i .spare .through-is;
           long = i .spare .long;
         }
@@ -343,7 +350,7 @@ module _ {g : Net} {survey asked : List ℕ} {e k : ℕ} {row₀ : List ℕ} whe
           record {
             surveyed = i .surveyed;
             spare = i .spare;
-            ends = rw (step .from-is) (i .ends);
+            ends = rw (step .from-is, step .lower-is) (i .ends);
             one = record { carries = own _ _ a′ (step .carries); free = λ v m. fresh v (sym (behind-more v) ∙ m) };
             two = record { carries = i .two .carries; free = rw (step .from-is) (i .two .free) };
             size = w ∙ i .size;

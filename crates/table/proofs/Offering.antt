@@ -115,17 +115,19 @@ module _ (old : Entry) (c : Costs) (h : noBetter old c ≡ true) where
   pub has-swap : eqb (old .state) swapState ≡ true
   has-swap = parts .0
 
-  pub stays-old : (e : ℕ) → (old .sum .link < e) × (old .incr .link < e) × (old .max .link < e) → (b : Bool) → offered old b e c ≡ old
+  pub stays-old :
+      (e lower : ℕ) → (old .sum .link < e) × (old .incr .link < e) × (old .max .link < e) → (b : Bool)
+      → offered old b e lower c ≡ old
   unfolding offered
-  stays-old e low true =
+  stays-old e lower low true =
       rw has-swap
       (λ i. record {
         state = sym (eqb-true (old .state) swapState has-swap) i;
-        sum = kept-old (old .sum) (record { link = e; cost = c .sum; incr = c .incr }) (parts .1) (low .0) i;
-        incr = kept-old (old .incr) (record { link = e; cost = c .incr; incr = c .incr }) (parts .2) (low .1) i;
-        max = kept-old (old .max) (record { link = e; cost = c .max; incr = c .incr }) (parts .3) (low .2) i;
+        sum = kept-old (old .sum) (record { link = e; cost = c .sum; incr = c .incr; lower = lower }) (parts .1) (low .0) i;
+        incr = kept-old (old .incr) (record { link = e; cost = c .incr; incr = c .incr; lower = lower }) (parts .2) (low .1) i;
+        max = kept-old (old .max) (record { link = e; cost = c .max; incr = c .incr; lower = lower }) (parts .3) (low .2) i;
       })
-  stays-old e low false =
+  stays-old e lower low false =
       rw has-swap
       (λ i. record { state = sym (eqb-true (old .state) swapState has-swap) i; sum = old .sum; incr = old .incr; max = old .max })
 
@@ -202,10 +204,12 @@ module _ {g : Net} {search : Search} {asked survey ranks row : List ℕ} {e k : 
     grown :
         (b : Bool)
         → b ≡ within (treeOf g) (g .search .depth) (s .climb .node) (innerEnd (treeOf g) (s .climb .node) (g .link e))
-        → old ≡ entry (firstLinks g e) (s .climb .node) → offered old b e v ≡ entry (firstLinks g (suc e)) (s .climb .node)
+        → old ≡ entry (firstLinks g e) (s .climb .node) → offered old b e (s .lower) v ≡ entry (firstLinks g (suc e)) (s .climb .node)
     grown b q was =
-        ap (λ (o : Entry). offered o b e v) was ∙
-        sym (entry-offered g (s .climb .node) off e (h .costing .crossing .cross) b q v (r .sum-is) (r .incr-is) (r .max-is))
+        ap (λ (o : Entry). offered o b e (s .lower) v) was ∙
+        sym
+        (entry-offered g (s .climb .node) off e (h .costing .crossing .cross) b q v (r .sum-is) (r .incr-is) (r .max-is) (s .lower)
+        (sym (h .costing .crossing .marked)))
 
     -- which it makes no better
     offered-kept : noBetter old v ≡ true → OfferedAt g (g .nodes) asked e (s .climb .node) row row
@@ -214,7 +218,7 @@ module _ {g : Net} {search : Search} {asked survey ranks row : List ℕ} {e k : 
         (λ before f i w.
         let is = was before f i w in
         let links = links-low g (s .climb .node) off e (subst (λ (o : Entry). eqb (o .state) swapState ≡ true) is (has-swap old v n)) in
-        let stays = stays-old old v n e (subst (λ (o : Entry). (o .sum .link < e) × (o .incr .link < e) × (o .max .link < e)) (sym is) links) _ in
+        let stays = stays-old old v n e (s .lower) (subst (λ (o : Entry). (o .sum .link < e) × (o .incr .link < e) × (o .max .link < e)) (sym is) links) _ in
         w ∙ want-marked g asked before e (s .climb .node) on ∙ ap entryRow (sym is ∙ sym stays ∙ grown _ refl is)
         ∙ sym (want-marked g asked before (suc e) (s .climb .node) on))
 
@@ -224,7 +228,7 @@ module _ {g : Net} {search : Search} {asked survey ranks row : List ℕ} {e k : 
 
     pub offered-one :
         {b : Bool} {new : Entry} {row′ : List ℕ}
-        → b ≡ withinBy (search .depth) (s .climb .hops) → new ≡ offered old b e v
+        → b ≡ withinBy (search .depth) (s .climb .hops) → new ≡ offered old b e (s .lower) v
         → row′ ≡ putEntry row (s .climb .node) new → OfferedAt g (g .nodes) asked e (s .climb .node) row row′
     offered-one {b} {new} {row′} bq w u =
         record {

@@ -18,7 +18,7 @@ use Rattle.network.specs.Network.{Net}
 use Rattle.tree.specs.Tree.{treeOf}
 use Rattle.table.specs.declared.Offer.{Offer}
 use Rattle.table.specs.declared.Costs.{Costs}
-use Rattle.swap.specs.Swap.{innerEnd, crosses, within, candidate, costOf, before, best}
+use Rattle.swap.specs.Swap.{innerEnd, lowerMark, crosses, within, candidate, costOf, before, best}
 use Rattle.swap.specs.Entry.{crossed, hasCandidate, priced, swapOf, entry}
 use Rattle.swap.proofs.Choosing.{best-by}
 use Rattle.swap.proofs.Stating.{stateBelow, entry-root, entry-own}
@@ -119,29 +119,31 @@ module _ (g : Net) (x : ℕ) where
     nearer-state c = rw (c, or-right (someTo (candidate g x) l) true refl)
 
     -- a link that crosses too deep
-    deeper : crosses (treeOf g) x l (g .link l) ≡ true → candidate g x l ≡ false → (c : Costs) → entryOf (suc l) ≡ offered (entryOf l) false l c
+    deeper :
+        crosses (treeOf g) x l (g .link l) ≡ true
+        → candidate g x l ≡ false → (c : Costs) (lower : ℕ) → entryOf (suc l) ≡ offered (entryOf l) false l lower c
     unfolding offered entryOf
-    deeper c n k = rw (best-same Sum n, best-same Incr n, best-same Max n, had-one l, deeper-state c n)
+    deeper c n k lower = rw (best-same Sum n, best-same Incr n, best-same Max n, had-one l, deeper-state c n)
 
     -- a candidate
     swap-kept :
         (s : Measure)
-        → candidate g x l ≡ true → (o : Offer) → o .link ≡ l → o .cost ≡ costOf s g x l
+        → candidate g x l ≡ true → (o : Offer) → o .link ≡ l → o .cost ≡ costOf s g x l → o .lower ≡ lowerMark (treeOf g) x (g .link l)
         → priced s g x (bestOf s (suc l)) ≡ kept (savedOf l) (priced s g x (bestOf s l)) o
     unfolding bestOf bestTo savedOf beats priced kept before better
-    swap-kept s c o p q =
+    swap-kept s c o p q m =
         rw (c, some-found (candidate g x) (before s g x) l) (one (bestTo (candidate g x) (before s g x) l))
       where
         new : Swap
-        new = record { link = o .link; cost = o .cost }
+        new = record { link = o .link; cost = o .cost; lower = o .lower }
 
         mine : Swap
-        mine = record { link = l; cost = costOf s g x l }
+        mine = priced s g x (At l)
 
         is-new : mine ≡ new
-        is-new = λ i. record { link = sym p i; cost = sym q i }
+        is-new = λ i. record { link = sym p i; cost = sym q i; lower = sym m i }
 
-        same-test : (b : ℕ) → better o (asOffer (record { link = b; cost = costOf s g x b })) ≡ before s g x l b
+        same-test : (b : ℕ) → better o (asOffer (priced s g x (At b))) ≡ before s g x l b
         same-test b = rw (p, q)
 
         two : (b : ℕ) (t : Bool) → before s g x l b ≡ t → priced s g x (cond (before s g x l b) (At l) (At b)) ≡ kept true (priced s g x (At b)) o
@@ -155,15 +157,16 @@ module _ (g : Net) (x : ℕ) where
     nearer :
         candidate g x l ≡ true
         → (c : Costs) → c .sum ≡ costOf Sum g x l → c .incr ≡ costOf Incr g x l → c .max ≡ costOf Max g x l
-        → entryOf (suc l) ≡ offered (entryOf l) true l c
+        → (lower : ℕ) → lower ≡ lowerMark (treeOf g) x (g .link l)
+        → entryOf (suc l) ≡ offered (entryOf l) true l lower c
     unfolding offered entryOf
-    nearer n c p q r =
+    nearer n c p q r lower m =
         rw (
           had-one l,
           nearer-state n,
-          swap-kept Sum n (record { link = l; cost = c .sum; incr = c .incr }) refl p,
-          swap-kept Incr n (record { link = l; cost = c .incr; incr = c .incr }) refl q,
-          swap-kept Max n (record { link = l; cost = c .max; incr = c .incr }) refl r,
+          swap-kept Sum n (record { link = l; cost = c .sum; incr = c .incr; lower = lower }) refl p m,
+          swap-kept Incr n (record { link = l; cost = c .incr; incr = c .incr; lower = lower }) refl q m,
+          swap-kept Max n (record { link = l; cost = c .max; incr = c .incr; lower = lower }) refl r m,
         )
 
   -- the entry of one more link, of a node that is not the root
@@ -175,10 +178,11 @@ module _ (g : Net) (x : ℕ) where
         crosses (treeOf g) x l (g .link l) ≡ true
         → (near : Bool) → near ≡ within (treeOf g) (g .search .depth) x (innerEnd (treeOf g) x (g .link l)) → (c : Costs)
         → c .sum ≡ costOf Sum g x l → c .incr ≡ costOf Incr g x l → c .max ≡ costOf Max g x l
-        → entry (firstLinks g (suc l)) x ≡ offered (entry (firstLinks g l) x) near l c
+        → (lower : ℕ) → lower ≡ lowerMark (treeOf g) x (g .link l)
+        → entry (firstLinks g (suc l)) x ≡ offered (entry (firstLinks g l) x) near l lower c
     unfolding candidate
-    entry-offered c true q k p i m = rw (entry-of (suc l) r, entry-of l r) (nearer l (rw (c, ← q)) k p i m)
-    entry-offered c false q k p i m = rw (entry-of (suc l) r, entry-of l r) (deeper l c (rw (c, ← q)) k)
+    entry-offered c true q k p i m lower z = rw (entry-of (suc l) r, entry-of l r) (nearer l (rw (c, ← q)) k p i m lower z)
+    entry-offered c false q k p i m lower z = rw (entry-of (suc l) r, entry-of l r) (deeper l c (rw (c, ← q)) k lower)
 
   -- a swap link of the first k links is one of them
   found-low : (s : Measure) (k : ℕ) {f : Found} → Stands (candidate g x) (before s g x) k f → isAt f ≡ true → priced s g x f .link < k

@@ -40,9 +40,12 @@ module _ {g : Net} {row : List ℕ} {z : ℕ} (h : Starts g row z) where
     pub start-less : k .near ≤ k .deep
     start-less = omega (arith, near, deep, start)
 
-    pub started : {c : Climb} → c ≡ begun z → Started g z (record { climb = c; from = z; near = k .near; turn = k .turn; reach = k .deep - k .near })
+    pub started :
+        {c : Climb} (lower : ℕ)
+        → c ≡ begun z
+        → Started g z lower (record { climb = c; from = z; lower = lower; near = k .near; turn = k .turn; reach = k .deep - k .near })
     unfolding begun
-    started {c} e =
+    started {c} lower e =
         let here : c .node ≡ z = ap (λ (x : Climb). x .node) e in
         record {
           carries =
@@ -54,6 +57,7 @@ module _ {g : Net} {row : List ℕ} {z : ℕ} (h : Starts g row z) where
                 reach-is = rw here (omega (arith, near, deep, start));
               };
           here = here;
+          lower-is = refl;
         }
 
 module _ {g : Net} {row : List ℕ} {s : Side} (h : Stepping g row s) where
@@ -153,6 +157,7 @@ module _ {g : Net} {row : List ℕ} {s : Side} (h : Stepping g row s) where
           → Stepped g s (record {
             climb = record { node = x .up; hops = m; dist = d };
             from = s .from;
+            lower = s .lower;
             near = s .near;
             turn = s .turn;
             reach = v;
@@ -174,4 +179,5 @@ module _ {g : Net} {row : List ℕ} {s : Side} (h : Stepping g row s) where
                 };
             here = next;
             from-is = refl;
+            lower-is = refl;
           }

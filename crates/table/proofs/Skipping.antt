@@ -10,6 +10,7 @@ use lib.ListN.{length, getD}
 use borrow.Author.Tests.{eqb-true, eq-eqb, ne-eqb, not-false}
 use Rattle.edition.specs.declared.Search.{Search}
 use Rattle.edition.specs.Limits.{longest, noLink}
+use Rattle.edition.specs.Entries.{firstEnd, secondEnd}
 use Rattle.rows.specs.Lists.{has, differ}
 use Rattle.rows.proofs.Tests.{not-so, and-none}
 use Rattle.network.specs.declared.Link.{Link}
@@ -163,7 +164,7 @@ module _ (links parents : List ℕ) (search : Search) where
                 (sym (h .each _ (in-tree sv _ first-node)) ∙ q ∙ h .each _ (in-tree sv _ second-node))
 
     -- the two climbs begin at the ends, and what the code adds up for K is K
-    module _ {a b : Side} (p : Started g (l .first) a) (q : Started g (l .second) b) (held : (i : ℕ) → getD links i 0 ≤ longest) where
+    module _ {a b : Side} (p : Started g (l .first) firstEnd a) (q : Started g (l .second) secondEnd b) (held : (i : ℕ) → getD links i 0 ≤ longest) where
       few-long : l .length ≤ longest
       few-long = rw lq (length-held links held e)
 
@@ -209,7 +210,9 @@ module _ (links parents : List ℕ) (search : Search) where
                   record {
                     one = rw link-is (p .carries);
                     one-at = rw link-is (p .here);
+                    one-mark = p .lower-is;
                     two = rw link-is (q .carries);
                     two-at = rw link-is (q .here);
+                    two-mark = q .lower-is;
                   };
             }

@@ -19,25 +19,25 @@ better a b = ltb (a .cost) (b .cost) || (eqb (a .cost) (b .cost) && ltb (a .link
 
 -- a swap link as a candidate; what it costs by incr does not matter to it
 abbrev pub asOffer : Swap → Offer
-asOffer s = record { link = s .link; cost = s .cost; incr = 0 }
+asOffer s = record { link = s .link; cost = s .cost; incr = 0; lower = s .lower }
 
 -- the better of a swap link, where there is one, and a candidate
 unfoldable pub kept : Bool → Swap → Offer → Swap
 kept had old new =
-    let it : Swap = record { link = new .link; cost = new .cost } in
+    let it : Swap = record { link = new .link; cost = new .cost; lower = new .lower } in
     cond (had && not (better new (asOffer old))) old it
 
--- an entry with one more link e that crosses, within the depth or not
-unfoldable pub offered : Entry → Bool → ℕ → Costs → Entry
-offered old true e c =
+-- an entry with one more link e that crosses, within the depth or not; lower is the mark of its lower end
+unfoldable pub offered : Entry → Bool → ℕ → ℕ → Costs → Entry
+offered old true e lower c =
     let had = eqb (old .state) swapState in
     record {
       state = swapState;
-      sum = kept had (old .sum) (record { link = e; cost = c .sum; incr = c .incr });
-      incr = kept had (old .incr) (record { link = e; cost = c .incr; incr = c .incr });
-      max = kept had (old .max) (record { link = e; cost = c .max; incr = c .incr });
+      sum = kept had (old .sum) (record { link = e; cost = c .sum; incr = c .incr; lower = lower });
+      incr = kept had (old .incr) (record { link = e; cost = c .incr; incr = c .incr; lower = lower });
+      max = kept had (old .max) (record { link = e; cost = c .max; incr = c .incr; lower = lower });
     }
-offered old false e c =
+offered old false e lower c =
     record {
       state = cond (eqb (old .state) swapState) swapState noneState;
       sum = old .sum;

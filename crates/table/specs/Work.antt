@@ -9,13 +9,13 @@ use Rattle.edition.specs.declared.Search.{Search}
 use Rattle.edition.specs.declared.Found.{Found}
 use Rattle.edition.specs.declared.Found.the-variants.{Nothing, At}
 use Rattle.edition.specs.Limits.{nodeLimit, wholeSearch, longest, noNode}
-use Rattle.edition.specs.Entries.{rootState, bridgeState, blank}
+use Rattle.edition.specs.Entries.{firstEnd, secondEnd, rootState, bridgeState, blank}
 use Rattle.edition.specs.declared.Measure.the-variants.{Sum, Incr, Max}
 use Rattle.network.specs.Network.{Net, inService}
 use Rattle.tree.specs.Tree.{Tree, treeOf, route, dist}
 use Rattle.table.specs.declared.Costs.{Costs}
 use Rattle.sound.specs.Surveyed.{Surveyed}
-use Rattle.swap.specs.Swap.{innerEnd, crosses, costOf}
+use Rattle.swap.specs.Swap.{innerEnd, lowerMark, crosses, costOf}
 use Rattle.survey.specs.Known.{count, turn as turnOf}
 use Rattle.survey.specs.Row.{nodesIn, knownAt}
 use Rattle.swap.specs.Work.{through, reach}
@@ -119,6 +119,7 @@ pub record Crossing (g : Net) (e : ℕ) (s : Side) (k : ℕ) : Type 0 where
   pub there : e < g .links
   pub cross : crosses (treeOf g) (s .climb .node) e (g .link e) ≡ true
   pub low : innerEnd (treeOf g) (s .climb .node) (g .link e) ≡ s .from
+  pub marked : lowerMark (treeOf g) (s .climb .node) (g .link e) ≡ s .lower
   pub through-is : k ≡ through (treeOf g) (g .link e)
   pub long : g .link e .length ≤ longest
 
@@ -134,9 +135,10 @@ pub record Starts (g : Net) (survey : List ℕ) (z : ℕ) : Type 0 where
   pub low : z < g .nodes
 
 -- a climb that begins there
-pub record Started (g : Net) (z : ℕ) (s : Side) : Type 0 where
+pub record Started (g : Net) (z lower : ℕ) (s : Side) : Type 0 where
   pub carries : Carries (treeOf g) z s
   pub here : s .climb .node ≡ z
+  pub lower-is : s .lower ≡ lower
 
 -- a climb that is not yet at the root
 pub record Stepping (g : Net) (survey : List ℕ) (s : Side) : Type 0 where
@@ -150,6 +152,7 @@ pub record Stepped (g : Net) (s r : Side) : Type 0 where
   pub carries : Carries (treeOf g) (s .from) r
   pub here : r .climb .node ≡ treeOf g .up (s .climb .node)
   pub from-is : r .from ≡ s .from
+  pub lower-is : r .lower ≡ s .lower
 
 -- a climb at a node that link e crosses
 pub record Costing (g : Net) (survey : List ℕ) (e k : ℕ) (s : Side) : Type 0 where
@@ -205,8 +208,10 @@ pub record Linked (g : Net) (n : ℕ) (asked : List ℕ) (e : ℕ) (row row′ :
 pub record Starting (g : Net) (e : ℕ) (a b : Side) : Type 0 where
   pub one : Carries (treeOf g) (g .link e .first) a
   pub one-at : a .climb .node ≡ g .link e .first
+  pub one-mark : a .lower ≡ firstEnd
   pub two : Carries (treeOf g) (g .link e .second) b
   pub two-at : b .climb .node ≡ g .link e .second
+  pub two-mark : b .lower ≡ secondEnd
 
 -- in a search, two climbs at the ends of a spare link
 pub record Climbing (g : Net) (search : Search) (asked survey ranks entries : List ℕ) (e k : ℕ) (a b : Side) : Type 0 where

@@ -32,11 +32,12 @@ use edition::Why;
 use sound::Checked;
 use tree::Climb;
 
-// A candidate under a measure: its link number, its cost under it, and its incr cost.
+// A candidate under a measure: its link number, its cost under it, its incr cost, and the mark of its lower end.
 struct Offer {
     pub link: u64,
     pub cost: u64,
     pub incr: u64,
+    pub lower: u64,
 }
 
 // A rank is how many nodes are below an anchor, so many times, and its number plus 1.
@@ -49,11 +50,12 @@ struct Costs {
     pub max: u64,
 }
 
-// A climb from the lower end z of a link: z, its distance and its turn, and the largest tree distance from z to a node below where the
-// climb is.
+// A climb from the lower end z of a link: z, its mark, its distance and its turn, and the largest tree distance from z to a node below
+// where the climb is.
 pub struct Side {
     pub climb: Climb,
     pub from: usize,
+    pub lower: u64,
     pub near: u64,
     pub turn: u64,
     pub reach: u64,
@@ -80,15 +82,16 @@ fn product(a: u64, b: u64) -> u64
     a * b
 }
 
-// A climb that begins at z.
-fn begin_side(survey: &[u64], z: usize) -> Side
+// A climb that begins at z, the end of a link with this mark.
+fn begin_side(survey: &[u64], z: usize, lower: u64) -> Side
     requires { ⌜ ((g : Net) × Starts g (now survey) z) ⌝ }
-    ensures { λ r. ⌜ ((g : Net) → Starts g (now (survey .entry)) z → Started g z r) ⌝ }
+    ensures { λ r. ⌜ ((g : Net) → Starts g (now (survey .entry)) z → Started g z lower r) ⌝ }
 {
     let k = survey::known_at(survey, z);
     Side {
         climb: Climb::begin(z),
         from: z,
+        lower,
         near: k.near,
         turn: k.turn,
         reach: k.deep - k.near,
@@ -113,6 +116,7 @@ impl Side {
         Side {
             climb,
             from: self.from,
+            lower: self.lower,
             near: self.near,
             turn: self.turn,
             reach: larger(self.reach, (self.near - p.near) + (x.beside - p.near)),
@@ -164,6 +168,7 @@ fn keep(had: bool, old: Swap, new: Offer) -> Swap
     let it = Swap {
         link: new.link,
         cost: new.cost,
+        lower: new.lower,
     };
     if !had {
         return it;
@@ -172,6 +177,7 @@ fn keep(had: bool, old: Swap, new: Offer) -> Swap
         link: old.link,
         cost: old.cost,
         incr: 0,
+        lower: old.lower,
     };
     if is_better(new, standing) {
         return it;
@@ -180,24 +186,27 @@ fn keep(had: bool, old: Swap, new: Offer) -> Swap
 }
 
 // The entry with one more link that crosses within the depth.
-fn with_candidate(old: Entry, e: u64, c: Costs) -> Entry
-    ensures { λ r. ⌜ r ≡ offered old true e c ⌝ }
+fn with_candidate(old: Entry, e: u64, lower: u64, c: Costs) -> Entry
+    ensures { λ r. ⌜ r ≡ offered old true e lower c ⌝ }
 {
     let had = old.state == Edition::SWAP;
     let sum = Offer {
         link: e,
         cost: c.sum,
         incr: c.incr,
+        lower,
     };
     let incr = Offer {
         link: e,
         cost: c.incr,
         incr: c.incr,
+        lower,
     };
     let max = Offer {
         link: e,
         cost: c.max,
         incr: c.incr,
+        lower,
     };
     let s = old.sum;
     let i = old.incr;
@@ -211,8 +220,8 @@ fn with_candidate(old: Entry, e: u64, c: Costs) -> Entry
 }
 
 // The entry with one more link that crosses too deep.
-fn with_crossing(old: Entry, e: u64, c: Costs) -> Entry
-    ensures { λ r. ⌜ r ≡ offered old false e c ⌝ }
+fn with_crossing(old: Entry, e: u64, lower: u64, c: Costs) -> Entry
+    ensures { λ r. ⌜ r ≡ offered old false e lower c ⌝ }
 {
     if old.state == Edition::SWAP {
         return old;
@@ -229,13 +238,13 @@ fn with_crossing(old: Entry, e: u64, c: Costs) -> Entry
 }
 
 // The entry with one more link that crosses, within the depth or not.
-fn with_link(old: Entry, near: bool, e: u64, c: Costs) -> Entry
-    ensures { λ r. ⌜ r ≡ offered old near e c ⌝ }
+fn with_link(old: Entry, near: bool, e: u64, lower: u64, c: Costs) -> Entry
+    ensures { λ r. ⌜ r ≡ offered old near e lower c ⌝ }
 {
     if near {
-        return with_candidate(old, e, c);
+        return with_candidate(old, e, lower, c);
     }
-    with_crossing(old, e, c)
+    with_crossing(old, e, lower, c)
 }
 
 // Whether an entry has a swap link already and no cost of a link is lower than its own.
@@ -266,14 +275,17 @@ fn own_rank(survey: &[u64], x: usize) -> u32
     k.count as u32 * STEP + x as u32 + 1
 }
 
-// Whether link e can better the entry of the node where the climb is: that node is asked for, and has no swap link yet or one that
-// costs more under a measure.
-fn is_worth(survey: &[u64], ranks: &[u32], entries: &[u64], side: Side, k: u64) -> bool
-    requires { ⌜ ((g : Net) × (search : Search) × (asked : List ℕ) × (e : ℕ) × Offering g search asked (now survey) (now ranks) (now entries) e k side) ⌝ }
+// Whether a link of these costs can better the entry of the node where the climb is: that node is asked for, and has no swap link yet
+// or one that costs more under a measure.
+fn is_worth(ranks: &[u32], entries: &[u64], side: Side, c: Costs) -> bool
+    requires { ⌜ ((g : Net) × (search : Search) × (asked : List ℕ) × (survey : List ℕ) × (e : ℕ) × (k : ℕ)
+        × Offering g search asked survey (now ranks) (now entries) e k side
+        × Priced g (side .climb .node) e c) ⌝ }
     ensures { λ r.
         let row = now (entries .entry) in
-        ⌜ ((g : Net) (search : Search) (asked : List ℕ) (e : ℕ)
-        → Offering g search asked (now (survey .entry)) (now (ranks .entry)) row e k side
+        ⌜ ((g : Net) (search : Search) (asked survey : List ℕ) (e k : ℕ)
+        → Offering g search asked survey (now (ranks .entry)) row e k side
+        → Priced g (side .climb .node) e c
         → Worth g (g .nodes) asked e (side .climb .node) row r) ⌝ }
 {
     let climb = side.climb;
@@ -281,29 +293,29 @@ fn is_worth(survey: &[u64], ranks: &[u32], entries: &[u64], side: Side, k: u64) 
     if ranks[x] % STEP != x as u32 + 1 {
         return false;
     }
-    let c = costs_of(survey, side, k);
     let old = entries::entry_there(entries, x);
     !no_better(old, c)
 }
 
-// Offers link e to the node where the climb is, which is asked for.
-fn offer_at(search: Search, survey: &[u64], entries: &mut [u64], side: Side, e: usize, k: u64)
-    requires { ⌜ ((g : Net) × (asked : List ℕ) × (ranks : List ℕ)
-        × Offering g search asked (now survey) ranks (now entries) e k side
+// Offers link e, which has these costs, to the node where the climb is, which is asked for.
+fn offer_at(search: Search, entries: &mut [u64], side: Side, e: usize, c: Costs)
+    requires { ⌜ ((g : Net) × (asked : List ℕ) × (survey : List ℕ) × (ranks : List ℕ) × (k : ℕ)
+        × Offering g search asked survey ranks (now entries) e k side
+        × Priced g (side .climb .node) e c
         × (isAsked asked (side .climb .node) ≡ true)) ⌝ }
     ensures { λ _.
         let row = now (entries .entry) in
-        ⌜ ((g : Net) (asked ranks : List ℕ)
-        → Offering g search asked (now (survey .entry)) ranks row e k side
+        ⌜ ((g : Net) (asked survey ranks : List ℕ) (k : ℕ)
+        → Offering g search asked survey ranks row e k side
+        → Priced g (side .climb .node) e c
         → isAsked asked (side .climb .node) ≡ true
         → OfferedAt g (g .nodes) asked e (side .climb .node) row (now (entries .exit))) ⌝ }
 {
     let climb = side.climb;
     let x = climb.node;
-    let c = costs_of(survey, side, k);
     let old = entries::entry_there(entries, x);
     let near_enough = is_within(search.depth, climb.hops);
-    let new = with_link(old, near_enough, e as u64, c);
+    let new = with_link(old, near_enough, e as u64, side.lower, c);
     entries::put_there(entries, x, new);
 }
 
@@ -340,13 +352,15 @@ fn climb_link(
     let mut b = second;
     while rank_at(ranks, a) != rank_at(ranks, b) {
         if rank_at(ranks, b) / STEP < rank_at(ranks, a) / STEP {
-            if is_worth(survey, ranks, entries, b, k) {
-                offer_at(search, survey, entries, b, e, k);
+            let c = costs_of(survey, b, k);
+            if is_worth(ranks, entries, b, c) {
+                offer_at(search, entries, b, e, c);
             }
             b = b.step(survey);
         } else {
-            if is_worth(survey, ranks, entries, a, k) {
-                offer_at(search, survey, entries, a, e, k);
+            let c = costs_of(survey, a, k);
+            if is_worth(ranks, entries, a, c) {
+                offer_at(search, entries, a, e, c);
             }
             a = a.step(survey);
         }
@@ -388,8 +402,8 @@ fn offer_link(
     if ranks[p] == ranks[q] {
         return;
     }
-    let a = begin_side(survey, p);
-    let b = begin_side(survey, q);
+    let a = begin_side(survey, p, Edition::FIRST);
+    let b = begin_side(survey, q, Edition::SECOND);
     let k = a.near + l.length as u64 + b.near;
     climb_link(search, survey, ranks, entries, a, b, e, k);
 }

@@ -8,10 +8,10 @@ pub mod raw;
 
 /// The version of the interface that these calls are made for. What is linked refers to it by name, so a library of another
 /// version does not link.
-pub const VERSION: u32 = 2;
+pub const VERSION: u32 = 3;
 
 #[used]
-static MADE_FOR: unsafe extern "C" fn() -> u32 = raw::doeragyeol_version_2;
+static MADE_FOR: unsafe extern "C" fn() -> u32 = raw::doeragyeol_version_3;
 
 /// The most nodes and links there are.
 pub const NODES: usize = 512;
@@ -19,7 +19,7 @@ pub const LINKS: usize = 2048;
 
 /// Numbers of a link's record and of an entry's.
 pub const LINK_NUMBERS: usize = 4;
-pub const ENTRY_NUMBERS: usize = 7;
+pub const ENTRY_NUMBERS: usize = 10;
 
 /// Words of the unprotected map.
 pub const MAP_WORDS: usize = 8;
@@ -35,6 +35,16 @@ pub const NO_NODE: u16 = 65535;
 /// The service marks of a link.
 pub const WITHDRAWN: u16 = 0;
 pub const SERVED: u16 = 1;
+
+/// The marks of a link's ends.
+pub const FIRST_END: u64 = 0;
+pub const SECOND_END: u64 = 1;
+
+/// Where an entry's numbers stand in its record: the state, the swap link under sum, and the mark of its lower end. Those under
+/// incr and max follow behind each of the two.
+pub const ENTRY_STATE: usize = 0;
+pub const ENTRY_SUM: usize = 1;
+pub const ENTRY_SUM_LOWER: usize = 7;
 
 /// The states of an entry.
 pub const STATE_ROOT: u64 = 0;
@@ -76,6 +86,22 @@ pub struct Change {
     pub link: u16,
     pub mark: u16,
     pub length: u16,
+}
+
+/// What is least: the sum of the new distances, the largest increase, or the largest new distance.
+#[derive(Clone, Copy, PartialEq, Eq, Debug)]
+pub enum Measure {
+    Sum,
+    Incr,
+    Max,
+}
+
+/// A swap link as it is crossed: its number, its end that is cut off, and its other end.
+#[derive(Clone, Copy, PartialEq, Eq, Debug)]
+pub struct Crossing {
+    pub link: u16,
+    pub from: u16,
+    pub to: u16,
 }
 
 /// What a file's header says.
@@ -246,5 +272,25 @@ pub fn read(
             root: header[2] as u16,
             depth: header[3] as u16,
         },
+    })
+}
+
+/// How the swap link of an entry under a measure is crossed; `None` where the entry has none. `links` is the row of the entry's
+/// network. Panics where `entry` is shorter than an entry, or `links` does not have the swap link.
+pub fn crossing(entry: &[u64], measure: Measure, links: &[u16]) -> Option<Crossing> {
+    if entry[ENTRY_STATE] != STATE_SWAP {
+        return None;
+    }
+    let link = entry[ENTRY_SUM + measure as usize];
+    let lower = entry[ENTRY_SUM_LOWER + measure as usize];
+    let record = &links[link as usize * LINK_NUMBERS..][..LINK_NUMBERS];
+    let (from, to) = match lower {
+        FIRST_END => (record[0], record[1]),
+        _ => (record[1], record[0]),
+    };
+    Some(Crossing {
+        link: link as u16,
+        from,
+        to,
     })
 }

@@ -2,7 +2,7 @@
 
 #[link(name = "doeragyeol", kind = "static")]
 extern "C" {
-    pub fn doeragyeol_version_2() -> u32;
+    pub fn doeragyeol_version_3() -> u32;
 
     pub fn doeragyeol_check(
         links: *const u16,

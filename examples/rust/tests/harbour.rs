@@ -50,9 +50,35 @@ fn reads() {
     assert_eq!(h.links[..8], [0, 1, 2, SERVED, 1, 2, 3, SERVED]);
     let rows: Vec<&[u64]> = h.entries.chunks(ENTRY_NUMBERS).collect();
     let none = NO_LINK as u64;
-    assert_eq!(rows[0], [STATE_ROOT, none, none, none, 0, 0, 0]);
-    assert_eq!(rows[1], [STATE_SWAP, 3, 4, 3, 25, 6, 10]);
-    assert_eq!(rows[4], [STATE_BRIDGE, none, none, none, 0, 0, 0]);
+    assert_eq!(rows[0], [STATE_ROOT, none, none, none, 0, 0, 0, 0, 0, 0]);
+    assert_eq!(rows[1], [STATE_SWAP, 3, 4, 3, 25, 6, 10, 1, 1, 1]);
+    assert_eq!(rows[2], [STATE_SWAP, 3, 3, 3, 6, 1, 6, 1, 1, 1]);
+    assert_eq!(rows[3], [STATE_SWAP, 4, 4, 4, 7, 4, 7, 1, 1, 1]);
+    let bridge = [STATE_BRIDGE, none, none, none, 0, 0, 0, 0, 0, 0];
+    assert_eq!(rows[4], bridge);
+}
+
+/// The swap links of Harbour begin at the root, so it is their second end that is cut off. Link 5 joins nodes 2 and 3: once it
+/// is shorter, node 2 crosses it from its first end; where 3 crosses it too, from its second.
+#[test]
+fn crosses_from_the_end_that_is_cut_off() {
+    let mut h = harbour();
+    let way = |h: &Harbour, node: usize, measure| {
+        let entry = &h.entries[node * ENTRY_NUMBERS..][..ENTRY_NUMBERS];
+        crossing(entry, measure, &h.links).map(|c| (c.link, c.from, c.to))
+    };
+    assert_eq!(way(&h, 0, Measure::Sum), None);
+    assert_eq!(way(&h, 1, Measure::Sum), Some((3, 2, 0)));
+    assert_eq!(way(&h, 1, Measure::Incr), Some((4, 3, 0)));
+    assert_eq!(way(&h, 1, Measure::Max), Some((3, 2, 0)));
+    assert_eq!(way(&h, 4, Measure::Max), None);
+
+    assert_eq!(changed(&mut h, 5, SERVED, 2), Ok(()));
+    assert_eq!(way(&h, 2, Measure::Incr), Some((5, 2, 3)));
+    assert_eq!(way(&h, 3, Measure::Incr), Some((4, 3, 0)));
+    assert_eq!(changed(&mut h, 4, WITHDRAWN, 7), Ok(()));
+    assert_eq!(way(&h, 2, Measure::Incr), Some((5, 2, 3)));
+    assert_eq!(way(&h, 3, Measure::Incr), Some((5, 3, 2)));
 }
 
 #[test]
@@ -120,7 +146,7 @@ fn writes_what_was_read() {
 
     assert_eq!(changed(&mut h, 3, WITHDRAWN, 6), Ok(()));
     let length = write(&h.links, &h.parents, h.search, &mut file).expect("a sound network");
-    let (mut links, mut parents, mut entries) = ([0; 28], [0; 5], [0; 35]);
+    let (mut links, mut parents, mut entries) = ([0; 28], [0; 5], [0; 50]);
     let header = read(&file[..length], &mut links, &mut parents, &mut entries);
     assert_eq!(header.map(|header| header.search), Ok(h.search));
     assert_eq!((&links[..], &entries[..]), (&h.links[..], &h.entries[..]));
@@ -147,7 +173,7 @@ fn a_short_row_is_refused() {
 /// place in the order for a file: a file that is empty is 20 all the same.
 #[test]
 fn a_short_row_of_values_is_refused_in_its_place() {
-    let (mut links, mut parents, mut entries) = ([7; 28], [7; 5], [7; 35]);
+    let (mut links, mut parents, mut entries) = ([7; 28], [7; 5], [7; 50]);
     let mut ask = |file: &[u8], header: &mut [u64]| {
         said(unsafe {
             raw::doeragyeol_read(
@@ -169,15 +195,15 @@ fn a_short_row_of_values_is_refused_in_its_place() {
     assert_eq!(ask(&[], &mut header[..3]), refused(20, 0));
     assert_eq!(ask(&[], &mut header), refused(20, 0));
     assert_eq!(header, [7; 4]);
-    assert_eq!((links, parents, entries), ([7; 28], [7; 5], [7; 35]));
+    assert_eq!((links, parents, entries), ([7; 28], [7; 5], [7; 50]));
 }
 
 #[test]
 fn a_damaged_file_is_refused() {
-    let (mut links, mut parents, mut entries) = ([7; 28], [7; 5], [7; 35]);
+    let (mut links, mut parents, mut entries) = ([7; 28], [7; 5], [7; 50]);
     let mut file = FILE.to_vec();
     file[600] ^= 1;
     let said = read(&file, &mut links, &mut parents, &mut entries);
     assert_eq!(said, refused(21, 1));
-    assert_eq!((links, parents, entries), ([7; 28], [7; 5], [7; 35]));
+    assert_eq!((links, parents, entries), ([7; 28], [7; 5], [7; 50]));
 }

@@ -27,7 +27,8 @@ fn asked(k: usize, slot: &Slot) -> [u16; 3] {
     [u16::from(slot.kind), k as u16, slot.used as u16]
 }
 
-fn case(block: &[u8], asked: [u16; 3]) -> Case {
+/// A case over one block.
+pub fn case(block: &[u8], asked: [u16; 3]) -> Case {
     Case::over_bytes(PAYLOAD_OF, block, asked)
 }
 

@@ -1,6 +1,6 @@
 //! Cases of ops 4 and 5: a network, and a change of one link.
 
-use super::networks::need;
+use super::networks::{edges, need};
 use crate::check::check;
 use crate::faults::{least_length, Faulty, NETWORK_FAULTS};
 use crate::harbour::harbour;
@@ -14,7 +14,8 @@ use crate::rng::Rng;
 /// A change as the words a, b, c: link, mark, length.
 pub type Words = [u16; 3];
 
-fn case(op: u16, rows: &Rows, depth: u16, words: Words) -> Case {
+/// A case with exactly the room needed.
+pub fn case(op: u16, rows: &Rows, depth: u16, words: Words) -> Case {
     let mut case = Case::over(op, rows, depth, need(op, rows));
     case.abc = words;
     case
@@ -114,12 +115,14 @@ fn changes_of(e: u16, mark: u16, length: u16, least: u64) -> Vec<Words> {
     changes
 }
 
-/// Room one short, larger, none, with changes accepted and refused.
+/// Room too short, larger, none, with changes accepted and refused.
 fn rooms(op: u16) -> Vec<Case> {
     let rows = harbour();
     let enough = need(op, &rows);
     let mut cases = Vec::new();
-    for room in [0, 6, 7, 13, enough - 1, enough + 1, enough + 9, PROBE_ROOM] {
+    let mut rooms = vec![0, 9, 10, 19, enough + 1, PROBE_ROOM];
+    rooms.extend(edges(rows.parents.len()));
+    for room in rooms {
         for words in [[5, 1, 2], [5, 1, 1], [0, 1, 2], [7, 1, 2], [5, 2, 2]] {
             let mut case = case(op, &rows, WHOLE, words);
             case.room = room;

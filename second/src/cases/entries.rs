@@ -3,6 +3,7 @@
 
 use super::asked::bare;
 use super::networks::cycles;
+use crate::ends::{branches, ways, WAYS};
 use crate::faults::{Faulty, NETWORK_FAULTS};
 use crate::harbour::harbour;
 use crate::limits::*;
@@ -30,7 +31,8 @@ pub fn chosen(op: u16) -> Vec<Case> {
 }
 
 /// Every node of Harbour at every kind of depth, and of the networks that
-/// tell wrong readings apart at the whole search.
+/// tell wrong readings apart at the whole search; and nodes whose swap links
+/// are recorded from either end.
 fn nodes() -> Vec<Asked> {
     let mut list = Vec::new();
     for depth in [WHOLE, 0, 1, DEEPEST, DEEPEST + 1] {
@@ -40,6 +42,8 @@ fn nodes() -> Vec<Asked> {
         let n = rows.parents.len() as u16;
         list.extend((1..n).map(|x| (rows.clone(), WHOLE, x)));
     }
+    list.extend(WAYS.map(|(_, marks)| (ways(marks), WHOLE, 1)));
+    list.extend([1, 2].map(|x| (branches(), WHOLE, x)));
     list
 }
 

@@ -1,5 +1,6 @@
 //! Cases of op 7: stored files, sound and damaged, and the rows lent.
 
+use super::networks::edges;
 use crate::block::seal;
 use crate::file_faults::{damaged, sound_file, Lent, FILE_FAULTS};
 use crate::harbour::harbour;
@@ -62,7 +63,11 @@ fn rooms() -> Vec<Case> {
         for row in 0..3 {
             let room = lent.rooms[row];
             let short = room.saturating_sub(1);
-            for other_room in [short, room + 1, room + 3, room + 7, room + 100] {
+            let mut rooms = vec![short, room + 1, room + 3, room + 7, room + 100];
+            if row == 2 {
+                rooms.extend(edges(named.rows.parents.len()));
+            }
+            for other_room in rooms {
                 let mut other = lent.clone();
                 other.rooms[row] = other_room;
                 cases.push(case(&other));
@@ -83,7 +88,7 @@ fn rooms() -> Vec<Case> {
 fn two_blocks(rng: &mut Rng) -> Rows {
     let draft = Draft::sprawl(rng, 20).with_more(rng, 52);
     let draft = draft.with_lengths(|_| rng.from_to(1, 9) as u16);
-    let draft = draft.with_withdrawn(rng, 3);
+    let draft = draft.with_withdrawn(rng, 3).turned(rng);
     draft.shuffled(rng).with_tree(rng)
 }
 
@@ -179,11 +184,11 @@ pub fn random(rng: &mut Rng) -> Case {
         mangle(rng, &mut lent.bytes, way, corrected);
     }
     for row in 0..3 {
-        lent.rooms[row] += rng.pick(&[0, 0, 1, 5]);
+        lent.rooms[row] += rng.pick(&[0, 0, 1, 5, 9, 10]);
     }
     if rng.chance(8) {
         let row = rng.below(3);
-        lent.rooms[row] = lent.rooms[row].saturating_sub(6);
+        lent.rooms[row] = lent.rooms[row].saturating_sub(rng.pick(&[1, 6, 9]));
     }
     case(&lent)
 }

@@ -7,6 +7,7 @@ mod changes;
 mod endings;
 mod entries;
 mod files;
+mod marks;
 mod networks;
 mod routes;
 mod series;
@@ -21,8 +22,8 @@ pub use asked::chosen;
 pub use endings::ENDINGS;
 pub use series::series;
 
-/// The fixed cases of an op.
-pub fn fixed(op: u16) -> Vec<Case> {
+/// The fixed cases of an op but for those of the lower ends.
+fn plain(op: u16) -> Vec<Case> {
     match op {
         CHECK | TABLE | MAP | WRITE => networks::fixed(op),
         CHANGE | CHANGE_UNFILLED => changes::fixed(op),
@@ -30,6 +31,11 @@ pub fn fixed(op: u16) -> Vec<Case> {
         PAYLOAD_OF => blocks::fixed(),
         _ => asked::fixed(op),
     }
+}
+
+/// The fixed cases of an op.
+pub fn fixed(op: u16) -> Vec<Case> {
+    [plain(op), marks::chosen(op)].concat()
 }
 
 /// A random case of an op.
@@ -60,8 +66,8 @@ pub fn input(ops: &[u16], seed: u64, count: usize) -> Vec<u8> {
 }
 
 /// Cases of every op that are kept with the probe: of the fixed ones that are
-/// not long the first, and of the others one in ten. Of the project's own ops
-/// those that are chosen.
+/// not long the first, and of the others one in ten; and all of the lower ends.
+/// Of the project's own ops those that are chosen.
 pub fn kept() -> Vec<u8> {
     let mut out = Vec::new();
     for op in CHECK..=PAYLOAD_OF {
@@ -69,11 +75,13 @@ pub fn kept() -> Vec<u8> {
             READ | PAYLOAD_OF => (2_100, 20),
             _ => (700, 40),
         };
-        let all = fixed(op).into_iter().map(|case| case.encode());
+        let all = plain(op).into_iter().map(|case| case.encode());
         let short: Vec<Vec<u8>> = all.filter(|bytes| bytes.len() <= longest).collect();
         let (begin, rest) = short.split_at(first);
         let some = rest.iter().step_by(10).take(first);
         begin.iter().chain(some).for_each(|case| out.extend(case));
+        let ends = marks::chosen(op);
+        ends.iter().for_each(|case| out.extend(case.encode()));
     }
     let own = (ROUTE..=NODE).flat_map(chosen);
     own.for_each(|case| out.extend(case.encode()));

@@ -23,6 +23,15 @@ pub fn need(op: u16, rows: &Rows) -> usize {
     }
 }
 
+/// Rooms for n entries: without the marks, one short, exactly enough, one short
+/// of another entry, and that.
+pub fn edges(n: usize) -> [usize; 5] {
+    let enough = ENTRY_WIDTH * n;
+    let unmarked = (ENTRY_WIDTH - MEASURES) * n;
+    let more = enough + ENTRY_WIDTH;
+    [unmarked, enough.saturating_sub(1), enough, more - 1, more]
+}
+
 /// A case with exactly the room needed.
 fn exact(op: u16, rows: &Rows, depth: u16) -> Case {
     Case::over(op, rows, depth, need(op, rows))
@@ -58,13 +67,16 @@ fn depths(op: u16) -> Vec<Case> {
     cases
 }
 
-/// Room exactly enough, one short, larger, none.
+/// Room exactly enough, one short, larger, none; also of the most nodes.
 fn rooms(op: u16) -> Vec<Case> {
     let mut cases = Vec::new();
-    for named in small().into_iter().take(8) {
+    let star = large().swap_remove(6);
+    for named in small().into_iter().take(8).chain([star]) {
         let enough = need(op, &named.rows);
         let short = enough.saturating_sub(1);
-        for room in [0, short, enough + 1, enough + 6, enough + 7, PROBE_ROOM] {
+        let mut rooms = vec![0, short, enough + 1, enough + 6, enough + 7, PROBE_ROOM];
+        rooms.extend(edges(named.rows.parents.len()));
+        for room in rooms {
             cases.push(Case::over(op, &named.rows, WHOLE, room));
         }
     }
@@ -92,8 +104,9 @@ fn faulty(op: u16) -> Vec<Case> {
             cases.push(with_faults(&mut rng, op, &[one], round == 0));
         }
         for &two in &NETWORK_FAULTS[i..] {
-            cases.push(with_faults(&mut rng, op, &[one, two], false));
-            cases.push(with_faults(&mut rng, op, &[one, two], true));
+            for short in [false, true, false, true] {
+                cases.push(with_faults(&mut rng, op, &[one, two], short));
+            }
         }
     }
     cases.extend(cycles().iter().map(|rows| exact(op, rows, WHOLE)));

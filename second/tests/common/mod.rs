@@ -36,13 +36,14 @@ pub fn harbour() -> Rows {
 }
 
 /// The entries of Harbour at the whole search, typed from the requirements.
+/// Links 3 and 4 go from the root to nodes 2 and 3, their second ends.
 pub fn harbour_table() -> Vec<u64> {
     [
-        [0, NONE, NONE, NONE, 0, 0, 0],
-        [1, 3, 4, 3, 25, 6, 10],
-        [1, 3, 3, 3, 6, 1, 6],
-        [1, 4, 4, 4, 7, 4, 7],
-        [3, NONE, NONE, NONE, 0, 0, 0],
+        [0, NONE, NONE, NONE, 0, 0, 0, 0, 0, 0],
+        [1, 3, 4, 3, 25, 6, 10, 1, 1, 1],
+        [1, 3, 3, 3, 6, 1, 6, 1, 1, 1],
+        [1, 4, 4, 4, 7, 4, 7, 1, 1, 1],
+        [3, NONE, NONE, NONE, 0, 0, 0, 0, 0, 0],
     ]
     .concat()
 }

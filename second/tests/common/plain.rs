@@ -104,9 +104,15 @@ pub fn best(priced: &[(usize, [u64; 3])], measure: usize) -> (u64, u64) {
     (best.1 as u64, best.0)
 }
 
+/// 0 where the route of a link's first end goes by x, else 1.
+pub fn lower(rows: &Rows, x: usize, e: usize) -> u64 {
+    let (first, _, _, _) = link(rows, e);
+    u64::from(!route(rows, first).contains(&x))
+}
+
 /// The entry of x as plain numbers.
-pub fn entry(rows: &Rows, depth: u16, x: usize) -> [u64; 7] {
-    let without = |state: u64| [state, 65_535, 65_535, 65_535, 0, 0, 0];
+pub fn entry(rows: &Rows, depth: u16, x: usize) -> [u64; 10] {
+    let without = |state: u64| [state, 65_535, 65_535, 65_535, 0, 0, 0, 0, 0, 0];
     if x == rows.root as usize {
         return without(0);
     }
@@ -119,7 +125,8 @@ pub fn entry(rows: &Rows, depth: u16, x: usize) -> [u64; 7] {
     }
     let priced: Vec<_> = near.iter().map(|&c| (c.0, costs(rows, x, c))).collect();
     let [s, i, m] = [0, 1, 2].map(|k| best(&priced, k));
-    [1, s.0, i.0, m.0, s.1, i.1, m.1]
+    let [ls, li, lm] = [s, i, m].map(|(e, _)| lower(rows, x, e as usize));
+    [1, s.0, i.0, m.0, s.1, i.1, m.1, ls, li, lm]
 }
 
 /// The table as plain numbers.

@@ -26,11 +26,29 @@ mul-t12 c = search needs
 shared-slice-read-t14 : tie.Need-shared-slice-read-t14
 shared-slice-read-t14 c = search needs
 
+add-t15 : tie.Need-add-t15
+add-t15 c = search needs
+
+mul-t16 : tie.Need-mul-t16
+mul-t16 c = search needs
+
+shared-slice-read-t18 : tie.Need-shared-slice-read-t18
+shared-slice-read-t18 c = search needs
+
 add-t7-2 : tie.Need-add-t7-2
 add-t7-2 c = search needs
 
 mul-t8-2 : tie.Need-mul-t8-2
 mul-t8-2 c = search needs
+
+shared-slice-read-t18-2 : tie.Need-shared-slice-read-t18-2
+shared-slice-read-t18-2 c = search needs
+
+add-t15-2 : tie.Need-add-t15-2
+add-t15-2 c = search needs
+
+mul-t16-2 : tie.Need-mul-t16-2
+mul-t16-2 c = search needs
 
 shared-slice-read-t14-2 : tie.Need-shared-slice-read-t14-2
 shared-slice-read-t14-2 c = search needs
@@ -62,11 +80,20 @@ mul-t12-3 c = search needs
 shared-slice-read-t14-3 : tie.Need-shared-slice-read-t14-3
 shared-slice-read-t14-3 c = search needs
 
+add-t15-3 : tie.Need-add-t15-3
+add-t15-3 c = search needs
+
+mul-t16-3 : tie.Need-mul-t16-3
+mul-t16-3 c = search needs
+
+shared-slice-read-t18-3 : tie.Need-shared-slice-read-t18-3
+shared-slice-read-t18-3 c = search needs
+
 mul-t7 : tie.Need-mul-t7
 mul-t7 c = search needs
 
-shared-slice-read-t14-4 : tie.Need-shared-slice-read-t14-4
-shared-slice-read-t14-4 c = search needs
+shared-slice-read-t18-4 : tie.Need-shared-slice-read-t18-4
+shared-slice-read-t18-4 c = search needs
 
 returns : tie.Need-returns
 returns c = entry-there _ _ (omega arith)
@@ -82,8 +109,14 @@ entry-there-spec =
     add-t11
     mul-t12
     shared-slice-read-t14
+    add-t15
+    mul-t16
+    shared-slice-read-t18
     add-t7-2
     mul-t8-2
+    shared-slice-read-t18-2
+    add-t15-2
+    mul-t16-2
     shared-slice-read-t14-2
     add-t11-2
     mul-t12-2
@@ -94,6 +127,9 @@ entry-there-spec =
     add-t11-3
     mul-t12-3
     shared-slice-read-t14-3
+    add-t15-3
+    mul-t16-3
+    shared-slice-read-t18-3
     mul-t7
-    shared-slice-read-t14-4
+    shared-slice-read-t18-4
     returns)

@@ -3,7 +3,7 @@ use native.Mathlib.Omega.{arith}
 use native.Mathlib.Numerals.{towards-suc}
 use lib.ListN.{length-set}
 use Rattle.entries.specs.Row.{entryRow}
-use Rattle.entries.proofs.Numbers.{put-stored}
+use Rattle.entries.proofs.Numbers.{add-nine, put-stored}
 use borrow.Author.Needs.{needs}
 use Rattle.entries.proofs.put_there.Statement.{statement}
 use Rattle.entries.proofs.put_there.Tie as tie
@@ -71,12 +71,39 @@ mul-row-7 c = search needs
 slice-write-row-7 : tie.Need-slice-write-row-7
 slice-write-row-7 c = simp length-set (omega arith)
 
+add-row-7 : tie.Need-add-row-7
+add-row-7 c = search needs
+
+mul-row-8 : tie.Need-mul-row-8
+mul-row-8 c = search needs
+
+slice-write-row-8 : tie.Need-slice-write-row-8
+slice-write-row-8 c = simp length-set (omega arith)
+
+add-row-8 : tie.Need-add-row-8
+add-row-8 c = search needs
+
+mul-row-9 : tie.Need-mul-row-9
+mul-row-9 c = search needs
+
+slice-write-row-9 : tie.Need-slice-write-row-9
+slice-write-row-9 c = simp length-set (omega arith)
+
+add-row-9 : tie.Need-add-row-9
+add-row-9 c = search needs
+
+mul-row-10 : tie.Need-mul-row-10
+mul-row-10 c = search needs
+
+slice-write-row-10 : tie.Need-slice-write-row-10
+slice-write-row-10 c = simp length-set (omega arith)
+
 same-length : tie.Need-same-length
 same-length c = search needs
 
 returns : tie.Need-returns
 unfolding entryRow
-returns c = simp towards-suc (put-stored _ _ (omega arith) _)
+returns c = simp (towards-suc, add-nine) (put-stored _ _ (omega arith) _)
 
 pub put-there-spec : {M : Type 1} → statement M
 put-there-spec =
@@ -103,5 +130,14 @@ put-there-spec =
     add-row-6
     mul-row-7
     slice-write-row-7
+    add-row-7
+    mul-row-8
+    slice-write-row-8
+    add-row-8
+    mul-row-9
+    slice-write-row-9
+    add-row-9
+    mul-row-10
+    slice-write-row-10
     same-length
     returns)

@@ -10,8 +10,8 @@ known-at-requires c κs = start-there (c .before .pre .1)
 begin-requires : tie.Need-begin-requires
 begin-requires c κs = search needs
 
-sub-t5 : tie.Need-sub-t5
-sub-t5 c =
+sub-t6 : tie.Need-sub-t6
+sub-t6 c =
     let known-at = c .before .before .known-at in
     let pre = c .before .before .before .before .pre in
     start-less (pre .1) (known-at .ensures)
@@ -19,7 +19,7 @@ sub-t5 c =
 returns : tie.Need-returns
 returns c =
     let known-at = c .before .before .known-at in
-    λ g h. started h (known-at .ensures) (c .before .begin .ensures)
+    λ g h. started h (known-at .ensures) _ (c .before .begin .ensures)
 
 pub begin-side-spec : {M : Type 1} → statement M
-begin-side-spec = tie.close (tie.spec known-at-requires begin-requires sub-t5 returns)
+begin-side-spec = tie.close (tie.spec known-at-requires begin-requires sub-t6 returns)

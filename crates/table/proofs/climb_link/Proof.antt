@@ -66,51 +66,70 @@ second-turn c = λ g asked h.
     (λ q. if1 .taken (sym q))
     (omega (arith, rank-at .ensures, rank-at2 .ensures, rank-at3 .ensures, rank-at4 .ensures, c .if2 .taken))
 
+costs-of-requires : tie.Need-costs-of-requires Inv-loop μ-loop
+costs-of-requires c κs =
+    let pre = c .before .before .before .before .before .before .before .before .before .before .pre in
+    let args = c .before .before .before .before .before .before .before .before .before .before .args in
+    (pre .0, args .e, offering (second-turn c _ _ (pre .2)) (pre .2) .costing)
+
 is-worth-requires : tie.Need-is-worth-requires Inv-loop μ-loop
 is-worth-requires c κs =
-    let pre = c .before .before .before .before .before .before .before .before .before .before .before .pre in
-    let args = c .before .before .before .before .before .before .before .before .before .before .before .args in
-    (pre .0, args .search, pre .1, args .e, offering (second-turn (c .before) _ _ (pre .2)) (pre .2))
+    let pre = c .before .before .before .before .before .before .before .before .before .before .before .before .pre in
+    let args = c .before .before .before .before .before .before .before .before .before .before .before .before .args in
+    let it = offering (second-turn (c .before .before) _ _ (pre .2)) (pre .2) in
+    (pre .0, args .search, pre .1, args .survey .now, args .e, args .k, it, c .before .costs-of .ensures _ _ (it .costing))
 
 offer-at-requires : tie.Need-offer-at-requires Inv-loop μ-loop
 offer-at-requires c κs =
-    let pre = c .before .before .before .before .before .before .before .before .before .before .before .before .before .before .pre in
-    let args = c .before .before .before .before .before .before .before .before .before .before .before .before .before .before .args in
+    let pre = c .before .before .before .before .before .before .before .before .before .before .before .before .before .before .before .pre in
+    let args = c .before .before .before .before .before .before .before .before .before .before .before .before .before .before .before .args in
     let is-worth = c .before .before .is-worth in
-    let it = offering (second-turn (c .before .before .before .before) _ _ (pre .2)) (pre .2) in
-    (pre .0, pre .1, args .ranks .now, it, is-worth .ensures _ _ _ _ it .yes (c .before .if3 .taken))
+    let costs-of = c .before .before .before .before .costs-of in
+    let it = offering (second-turn (c .before .before .before .before .before) _ _ (pre .2)) (pre .2) in
+    let priced = costs-of .ensures _ _ (it .costing) in (
+      pre .0,
+      pre .1,
+      args .survey .now,
+      args .ranks .now,
+      args .k,
+      it,
+      priced,
+      is-worth .ensures _ _ _ _ _ _ it priced .yes (c .before .if3 .taken),
+    )
 
 -- what the offer, where it is made, leaves
 second-went : (c : tie.Joined3 Inv-loop μ-loop) →
-    let args = c .before .before .before .before .before .before .before .before .before .before .before .before .before .args in
-    let loop = c .before .before .before .before .before .before .before .before .before .loop in
+    let args = c .before .before .before .before .before .before .before .before .before .before .before .before .before .before .args in
+    let loop = c .before .before .before .before .before .before .before .before .before .before .loop in
     (g : Net) (asked : List ℕ)
     → Climbing g (args .search) asked (args .survey .now) (args .ranks .now) (args .entries .now) (args .e) (args .k) (args .first) (args .second)
     → Went g asked (args .e) (loop .b .climb .node) (loop .entries) (c .if3 .entries)
 second-went c = λ g asked h.
     let is-worth = c .before .is-worth in
-    let it = offering (second-turn (c .before .before .before) g asked h) h in
-    let said = is-worth .ensures g _ asked _ it in
+    let costs-of = c .before .before .before .costs-of in
+    let it = offering (second-turn (c .before .before .before .before) g asked h) h in
+    let priced = costs-of .ensures g _ (it .costing) in
+    let said = is-worth .ensures g _ asked _ _ _ it priced in
     ⊎-elim
-    (λ w. went-on (w .2 .ensures g asked _ it (said .yes (w .0 .taken))) (w .3 .given) (w .5))
+    (λ w. went-on (w .2 .ensures g asked _ _ _ it priced (said .yes (w .0 .taken))) (w .3 .given) (w .5))
     (λ w. went-still (said .no (w .0 .left)) (w .1))
     (c .if3 .came)
 
 step-requires : tie.Need-step-requires Inv-loop μ-loop
 step-requires c κs =
-    let pre = c .before .before .before .before .before .before .before .before .before .before .before .before .before .pre in
-    (pre .0, stepping (second-turn (c .before .before .before) _ _ (pre .2)))
+    let pre = c .before .before .before .before .before .before .before .before .before .before .before .before .before .before .pre in
+    (pre .0, stepping (second-turn (c .before .before .before .before) _ _ (pre .2)))
 
 loop-less : tie.Need-loop-less Inv-loop μ-loop
 loop-less c =
-    let pre = c .before .before .before .before .before .before .before .before .before .before .before .before .before .before .pre in
-    let turn = second-turn (c .before .before .before .before) _ _ (pre .2) in
+    let pre = c .before .before .before .before .before .before .before .before .before .before .before .before .before .before .before .pre in
+    let turn = second-turn (c .before .before .before .before .before) _ _ (pre .2) in
     second-less turn (c .step .ensures _ (stepping turn))
 
 loop-again : tie.Need-loop-again Inv-loop μ-loop
 loop-again c =
     λ g asked h.
-    let turn = second-turn (c .before .before .before .before) g asked h in
+    let turn = second-turn (c .before .before .before .before .before) g asked h in
     let went = second-went (c .before) g asked h in
     between-turn (between-more turn (c .step .ensures _ (stepping turn)) (went .offered) (went .size))
 
@@ -131,51 +150,70 @@ first-turn c = λ g asked h.
     first-next (loop .inv g asked h) (h .searching .ranked) (rank-at .ensures) (rank-at2 .ensures) (if1 .taken)
     (omega (arith, rank-at .ensures, rank-at2 .ensures, rank-at3 .ensures, rank-at4 .ensures, c .if2 .left))
 
+costs-of-requires-2 : tie.Need-costs-of-requires-2 Inv-loop μ-loop
+costs-of-requires-2 c κs =
+    let pre = c .before .before .before .before .before .before .before .before .before .before .pre in
+    let args = c .before .before .before .before .before .before .before .before .before .before .args in
+    (pre .0, args .e, offering (first-turn c _ _ (pre .2)) (pre .2) .costing)
+
 is-worth-requires-2 : tie.Need-is-worth-requires-2 Inv-loop μ-loop
 is-worth-requires-2 c κs =
-    let pre = c .before .before .before .before .before .before .before .before .before .before .before .pre in
-    let args = c .before .before .before .before .before .before .before .before .before .before .before .args in
-    (pre .0, args .search, pre .1, args .e, offering (first-turn (c .before) _ _ (pre .2)) (pre .2))
+    let pre = c .before .before .before .before .before .before .before .before .before .before .before .before .pre in
+    let args = c .before .before .before .before .before .before .before .before .before .before .before .before .args in
+    let it = offering (first-turn (c .before .before) _ _ (pre .2)) (pre .2) in
+    (pre .0, args .search, pre .1, args .survey .now, args .e, args .k, it, c .before .costs-of2 .ensures _ _ (it .costing))
 
 offer-at-requires-2 : tie.Need-offer-at-requires-2 Inv-loop μ-loop
 offer-at-requires-2 c κs =
-    let pre = c .before .before .before .before .before .before .before .before .before .before .before .before .before .before .pre in
-    let args = c .before .before .before .before .before .before .before .before .before .before .before .before .before .before .args in
+    let pre = c .before .before .before .before .before .before .before .before .before .before .before .before .before .before .before .pre in
+    let args = c .before .before .before .before .before .before .before .before .before .before .before .before .before .before .before .args in
     let is-worth = c .before .before .is-worth2 in
-    let it = offering (first-turn (c .before .before .before .before) _ _ (pre .2)) (pre .2) in
-    (pre .0, pre .1, args .ranks .now, it, is-worth .ensures _ _ _ _ it .yes (c .before .if4 .taken))
+    let costs-of = c .before .before .before .before .costs-of2 in
+    let it = offering (first-turn (c .before .before .before .before .before) _ _ (pre .2)) (pre .2) in
+    let priced = costs-of .ensures _ _ (it .costing) in (
+      pre .0,
+      pre .1,
+      args .survey .now,
+      args .ranks .now,
+      args .k,
+      it,
+      priced,
+      is-worth .ensures _ _ _ _ _ _ it priced .yes (c .before .if4 .taken),
+    )
 
 -- what the offer, where it is made, leaves
 first-went : (c : tie.Joined4 Inv-loop μ-loop) →
-    let args = c .before .before .before .before .before .before .before .before .before .before .before .before .before .args in
-    let loop = c .before .before .before .before .before .before .before .before .before .loop in
+    let args = c .before .before .before .before .before .before .before .before .before .before .before .before .before .before .args in
+    let loop = c .before .before .before .before .before .before .before .before .before .before .loop in
     (g : Net) (asked : List ℕ)
     → Climbing g (args .search) asked (args .survey .now) (args .ranks .now) (args .entries .now) (args .e) (args .k) (args .first) (args .second)
     → Went g asked (args .e) (loop .a .climb .node) (loop .entries) (c .if4 .entries)
 first-went c = λ g asked h.
     let is-worth = c .before .is-worth2 in
-    let it = offering (first-turn (c .before .before .before) g asked h) h in
-    let said = is-worth .ensures g _ asked _ it in
+    let costs-of = c .before .before .before .costs-of2 in
+    let it = offering (first-turn (c .before .before .before .before) g asked h) h in
+    let priced = costs-of .ensures g _ (it .costing) in
+    let said = is-worth .ensures g _ asked _ _ _ it priced in
     ⊎-elim
-    (λ w. went-on (w .2 .ensures g asked _ it (said .yes (w .0 .taken))) (w .3 .given) (w .5))
+    (λ w. went-on (w .2 .ensures g asked _ _ _ it priced (said .yes (w .0 .taken))) (w .3 .given) (w .5))
     (λ w. went-still (said .no (w .0 .left)) (w .1))
     (c .if4 .came)
 
 step-requires-2 : tie.Need-step-requires-2 Inv-loop μ-loop
 step-requires-2 c κs =
-    let pre = c .before .before .before .before .before .before .before .before .before .before .before .before .before .pre in
-    (pre .0, stepping (first-turn (c .before .before .before) _ _ (pre .2)))
+    let pre = c .before .before .before .before .before .before .before .before .before .before .before .before .before .before .pre in
+    (pre .0, stepping (first-turn (c .before .before .before .before) _ _ (pre .2)))
 
 loop-less-2 : tie.Need-loop-less-2 Inv-loop μ-loop
 loop-less-2 c =
-    let pre = c .before .before .before .before .before .before .before .before .before .before .before .before .before .before .pre in
-    let turn = first-turn (c .before .before .before .before) _ _ (pre .2) in
+    let pre = c .before .before .before .before .before .before .before .before .before .before .before .before .before .before .before .pre in
+    let turn = first-turn (c .before .before .before .before .before) _ _ (pre .2) in
     first-less turn (c .step2 .ensures _ (stepping turn))
 
 loop-again-2 : tie.Need-loop-again-2 Inv-loop μ-loop
 loop-again-2 c =
     λ g asked h.
-    let turn = first-turn (c .before .before .before .before) g asked h in
+    let turn = first-turn (c .before .before .before .before .before) g asked h in
     let went = first-went (c .before) g asked h in
     between-more turn (c .step2 .ensures _ (stepping turn)) (went .offered) (went .size)
 
@@ -203,11 +241,13 @@ climb-link-spec =
     rank-at-requires-2
     rank-at-requires-3
     rank-at-requires-4
+    costs-of-requires
     is-worth-requires
     offer-at-requires
     step-requires
     loop-less
     loop-again
+    costs-of-requires-2
     is-worth-requires-2
     offer-at-requires-2
     step-requires-2

@@ -7,46 +7,39 @@ use Rattle.table.proofs.is_worth.Tie as tie
 
 mul-if1 : tie.Need-mul-if1
 mul-if1 c =
-    let pre = c .before .before .before .before .pre in
-    omega (arith, node-few (pre .4))
+    let pre = c .before .before .before .pre in
+    omega (arith, node-few (pre .6))
 
 shared-slice-read-if1 : tie.Need-shared-slice-read-if1
 shared-slice-read-if1 c =
-    let pre = c .before .before .before .before .before .pre in
-    has-rank (pre .4)
+    let pre = c .before .before .before .before .pre in
+    has-rank (pre .6)
 
 cast-if1 : tie.Need-cast-if1
 cast-if1 c =
-    let pre = c .before .before .before .before .before .pre in
-    omega (arith, node-few (pre .4))
+    let pre = c .before .before .before .before .pre in
+    omega (arith, node-few (pre .6))
 
 add-if1 : tie.Need-add-if1
 add-if1 c =
-    let pre = c .before .before .before .before .before .pre in
-    omega (arith, node-few (pre .4))
+    let pre = c .before .before .before .before .pre in
+    omega (arith, node-few (pre .6))
 
 returns : tie.Need-returns
-returns c = λ g search asked e h. worth-none h (not-asked h (c .if1 .taken))
-
-costs-of-requires : tie.Need-costs-of-requires
-costs-of-requires c κs =
-    let pre = c .before .before .before .before .before .before .pre in
-    (pre .0, pre .3, pre .4 .costing)
+returns c = λ g search asked survey e k h p. worth-none h (not-asked h (c .if1 .taken))
 
 entry-there-requires : tie.Need-entry-there-requires
 entry-there-requires c κs =
-    let pre = c .before .before .before .before .before .before .before .pre in
-    has-entry (pre .4)
+    let pre = c .before .before .before .before .before .pre in
+    has-entry (pre .6)
 
 no-better-requires : tie.Need-no-better-requires
 no-better-requires c κs = search needs
 
 returns-2 : tie.Need-returns-2
 returns-2 c =
-    let costs-of = c .before .before .costs-of in
-    let if1 = c .before .before .before .if1 in
-    λ g search asked e h.
-    worth-so h (is-asked h (if1 .left)) (c .before .entry-there .ensures) (costs-of .ensures g e (h .costing)) (c .no-better .ensures)
+    let if1 = c .before .before .if1 in
+    λ g search asked survey e k h p. worth-so h (is-asked h (if1 .left)) (c .before .entry-there .ensures) p (c .no-better .ensures)
 
 pub is-worth-spec : {M : Type 1} → statement M
 is-worth-spec =
@@ -57,7 +50,6 @@ is-worth-spec =
     cast-if1
     add-if1
     returns
-    costs-of-requires
     entry-there-requires
     no-better-requires
     returns-2)

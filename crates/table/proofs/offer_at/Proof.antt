@@ -4,16 +4,10 @@ use borrow.Author.Needs.{needs}
 use Rattle.table.proofs.offer_at.Statement.{statement}
 use Rattle.table.proofs.offer_at.Tie as tie
 
-costs-of-requires : tie.Need-costs-of-requires
-costs-of-requires c κs =
-    let pre = c .before .before .before .pre in
-    let args = c .before .before .before .args in
-    (pre .0, args .e, pre .3 .costing)
-
 entry-there-requires : tie.Need-entry-there-requires
 entry-there-requires c κs =
-    let pre = c .before .before .before .before .before .pre in
-    has-entry (pre .3)
+    let pre = c .before .before .before .pre in
+    has-entry (pre .5)
 
 is-within-requires : tie.Need-is-within-requires
 is-within-requires c κs = search needs
@@ -23,8 +17,8 @@ with-link-requires c κs = search needs
 
 put-there-requires : tie.Need-put-there-requires
 put-there-requires c κs =
-    let pre = c .before .before .before .before .before .before .before .before .before .pre in
-    has-entry (pre .3)
+    let pre = c .before .before .before .before .before .before .before .pre in
+    has-entry (pre .5)
 
 same-length : tie.Need-same-length
 same-length c = search needs
@@ -35,15 +29,13 @@ returns c =
     let with-link = c .before .before .before .before .with-link in
     let is-within = c .before .before .before .before .before .is-within in
     let entry-there = c .before .before .before .before .before .before .entry-there in
-    let costs-of = c .before .before .before .before .before .before .before .before .costs-of in
-    λ g asked ranks h on.
-    offered-one h on (entry-there .ensures) (costs-of .ensures g _ (h .costing)) (is-within .ensures) (with-link .ensures) (put-there .ensures)
+    λ g asked survey ranks k h p on.
+    offered-one h on (entry-there .ensures) p (is-within .ensures) (with-link .ensures) (put-there .ensures)
 
 pub offer-at-spec : {M : Type 1} → statement M
 offer-at-spec =
     tie.close
     (tie.spec
-    costs-of-requires
     entry-there-requires
     is-within-requires
     with-link-requires

@@ -10,8 +10,8 @@ use std::process::ExitCode;
 fn main() -> ExitCode {
     let words: Vec<OsString> = std::env::args_os().skip(1).collect();
     if let [name, measure] = &words[..] {
-        if let Some(place) = place_of(&measure.to_string_lossy()) {
-            return run(Path::new(name), place);
+        if let Some(measure) = measure_of(&measure.to_string_lossy()) {
+            return run(Path::new(name), measure);
         }
     }
     eprintln!("usage: load FILE sum|incr|max");
@@ -19,7 +19,7 @@ fn main() -> ExitCode {
 }
 
 /// Loads a file, or says why not.
-fn run(name: &Path, measure: usize) -> ExitCode {
+fn run(name: &Path, measure: Measure) -> ExitCode {
     let file = match read_file(name) {
         Ok(file) => file,
         Err(_) => {
@@ -33,16 +33,19 @@ fn run(name: &Path, measure: usize) -> ExitCode {
             eprintln!("{}: refused {number} {place}", name.display());
             ExitCode::from(1)
         }
-        Err(_) => ExitCode::from(2),
+        Err(_) => {
+            eprintln!("standard output: cannot be written");
+            ExitCode::from(2)
+        }
     }
 }
 
-/// Where the swap link of a measure stands in an entry.
-fn place_of(measure: &str) -> Option<usize> {
-    match measure {
-        "sum" => Some(1),
-        "incr" => Some(2),
-        "max" => Some(3),
+/// The measure that a word names.
+fn measure_of(word: &str) -> Option<Measure> {
+    match word {
+        "sum" => Some(Measure::Sum),
+        "incr" => Some(Measure::Incr),
+        "max" => Some(Measure::Max),
         _ => None,
     }
 }
@@ -57,7 +60,7 @@ fn read_file(name: &Path) -> Result<Vec<u8>> {
 }
 
 /// Prints a line for each node but the root, or says why the file is refused.
-fn load(file: &[u8], measure: usize) -> Result<std::result::Result<(), Refusal>> {
+fn load(file: &[u8], measure: Measure) -> Result<std::result::Result<(), Refusal>> {
     let mut links = vec![0; LINKS * LINK_NUMBERS];
     let mut parents = vec![0; NODES];
     let mut entries = vec![0; NODES * ENTRY_NUMBERS];
@@ -72,10 +75,12 @@ fn load(file: &[u8], measure: usize) -> Result<std::result::Result<(), Refusal>>
             continue;
         }
         write!(out, "node {node} when link {parent} is down: ")?;
-        match entry[0] {
-            STATE_SWAP => writeln!(out, "cross link {}", entry[measure])?,
-            STATE_NONE => writeln!(out, "no link within the depth")?,
-            _ => writeln!(out, "bridge")?,
+        match crossing(entry, measure, &links) {
+            Some(Crossing { link, from, to }) => {
+                writeln!(out, "cross link {link} from {from} to {to}")?
+            }
+            None if entry[ENTRY_STATE] == STATE_NONE => writeln!(out, "no link within the depth")?,
+            None => writeln!(out, "bridge")?,
         }
     }
     out.flush()?;
