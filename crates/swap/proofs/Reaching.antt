@@ -15,7 +15,7 @@ use Rattle.tree.proofs.Meeting.{apart-dist}
 use Rattle.tree.proofs.Climbing.{up-above, below-not}
 use Rattle.swap.specs.Swap.{innerEnd, outerEnd, newDist, cost}
 use Rattle.survey.proofs.Inside.{inside-reach, inside-bound, beside-reach, beside-bound, aside-more}
-use Rattle.survey.specs.Known.{deepest, beside, aside}
+use Rattle.survey.specs.Known.{deepest, aside}
 use Rattle.swap.specs.Work.{reach}
 use Rattle.swap.proofs.Folding.{meet-below, meet-aside}
 

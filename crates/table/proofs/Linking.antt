@@ -19,7 +19,7 @@ use Rattle.tree.specs.Tree.{Tree, treeOf, route, under}
 use Rattle.tree.proofs.Ways.{Home, under-cut, under-root}
 use Rattle.tree.proofs.Bounded.{under-below}
 use Rattle.survey.specs.Known.{count}
-use Rattle.survey.specs.Row.{nodesIn, knownAt}
+use Rattle.survey.specs.Row.{knownAt}
 use Rattle.sound.specs.Surveyed.{Surveyed}
 use Rattle.sound.proofs.Sounds.{Sound}
 use Rattle.sound.proofs.Holding.{first-in, second-in, parent-touches, home}

@@ -11,7 +11,7 @@ use borrow.Author.Tests.{eqb-true, eq-eqb, ne-eqb, not-false}
 use Rattle.edition.specs.declared.Search.{Search}
 use Rattle.edition.specs.Limits.{longest, noLink}
 use Rattle.edition.specs.Entries.{firstEnd, secondEnd}
-use Rattle.rows.specs.Lists.{has, differ}
+use Rattle.rows.specs.Lists.{has}
 use Rattle.rows.proofs.Tests.{not-so, and-none}
 use Rattle.network.specs.declared.Link.{Link}
 use Rattle.network.specs.Network.{Net, netOf, linkIn, linksIn, inService, otherEnd}
@@ -20,7 +20,7 @@ use Rattle.tree.specs.Tree.{treeOf, under}
 use Rattle.tree.proofs.Ways.{route-step}
 use Rattle.sound.specs.Surveyed.{Surveyed}
 use Rattle.sound.proofs.Sounds.{Sound}
-use Rattle.sound.proofs.Holding.{first-in, second-in, ends-differ, nodes-few, links-few, home, up-in}
+use Rattle.sound.proofs.Holding.{first-in, second-in, ends-differ, links-few, home}
 use Rattle.swap.specs.Swap.{crosses}
 use Rattle.swap.specs.Work.{through}
 use Rattle.network.proofs.Whole.{length-held}

@@ -4,11 +4,9 @@ use mathlib.Core.Bool.{Bool, true, false}
 use Prim.Native.Nat.{ℕ, _<_, _≤_}
 use native.Mathlib.Omega.{arith}
 use lib.Dec.{eqb}
-use Rattle.rows.specs.Lists.{has, upTo}
 use Rattle.rows.proofs.Tests.{clash, not-so}
 use Rattle.rows.proofs.Counting.{sum-less}
-use Rattle.rows.proofs.Listed.{meets-only}
-use Rattle.tree.specs.Tree.{Tree, route, under, meet, inside}
+use Rattle.tree.specs.Tree.{Tree, under, inside}
 use Rattle.tree.proofs.Ways.{Home, under-self, under-trans}
 use Rattle.tree.proofs.Meeting.{under-both}
 use Rattle.tree.proofs.Climbing.{up-above, below-not}

@@ -1,5 +1,5 @@
 -- `sound::check_plain` meets its contract. Assumes nothing.
-use mathlib.Core.Path.{_∙_, sym}
+use mathlib.Core.Path.{sym}
 use Rattle.rows.specs.First.{firstly}
 use Rattle.rows.proofs.Refusing.{only-one}
 use Rattle.network.specs.Network.{netOf}

@@ -9,7 +9,6 @@ use mathlib.Core.List.{List}
 use mathlib.Core.Path.{sym}
 use native.Mathlib.Omega.{arith}
 use Prim.Native.Nat.{ℕ}
-use borrow.Author.Needs.{needs}
 use Rattle.table.proofs.climb_link.Statement.{statement}
 use Rattle.table.proofs.climb_link.Tie as tie
 

@@ -1,7 +1,6 @@
 -- `table::own_rank` meets its contract. Assumes nothing.
 use Rattle.table.proofs.Ranks.{rank-is}
 use Rattle.survey.specs.declared.Known.{Known}
-use Prim.Native.Nat.{ℕ}
 use mathlib.Core.Path.{ap}
 use native.Mathlib.Omega.{arith}
 use borrow.Author.Needs.{needs}
