@@ -13,6 +13,8 @@ pub mod Linking
 pub mod Skipping
 pub mod Searching
 pub mod Whole
+pub mod Alone
+pub mod Carrying
 pub mod Single
 pub mod Numbers
 pub mod Outcomes

@@ -18,32 +18,30 @@ use Rattle.network.specs.Network.{Net, inService, touches}
 use Rattle.tree.specs.Tree.{Tree, treeOf, route, under}
 use Rattle.tree.proofs.Ways.{Home, under-cut, under-root}
 use Rattle.tree.proofs.Bounded.{under-below}
-use Rattle.survey.specs.Known.{count}
 use Rattle.survey.specs.Row.{knownAt}
 use Rattle.sound.specs.Surveyed.{Surveyed}
 use Rattle.sound.proofs.Sounds.{Sound}
 use Rattle.sound.proofs.Holding.{first-in, second-in, parent-touches, home}
 use Rattle.swap.specs.Swap.{innerEnd, lowerMark, crosses}
-use Rattle.table.proofs.Prefixes.{entry-unmoved, entry-top}
+use Rattle.table.proofs.Prefixes.{entry-still}
 use Rattle.table.specs.declared.Side.{Side}
 use Rattle.table.specs.Table.{isAsked}
 use Rattle.table.specs.Work.{Entries, Carries, Crossing, Stepping, Stepped, Offering, want, OfferedAt, Spare, Climbing, Linked, rankStep, rank, Ranked}
 use Rattle.table.proofs.Moving.{passed-none, passed-more}
 use Rattle.table.proofs.Offering.{entries-same}
 use Rattle.table.proofs.Surveys.{fine, size-is, homes, closed, small, count-is, count-few}
-use Rattle.table.proofs.TwoSides.{count-rises}
+use Rattle.table.proofs.Sides.{step-rises, step-few}
 use Rattle.table.proofs.Ranks.{rank-same, rank-over}
 
 -- a link that does not cross x, or an x that is not asked for: its record stays
 module _ (g : Net) (asked before : List ℕ) (e x : ℕ) where
   pub want-kept : (isAsked asked x ≡ true → crosses (treeOf g) x e (g .link e) ≡ false) → want g asked before (suc e) x ≡ want g asked before e x
   unfolding want
-  want-kept c = go (isAsked asked x) refl (eqb x (g .search .root)) refl
+  want-kept c = go (isAsked asked x) refl
     where
-      go : (m : Bool) → isAsked asked x ≡ m → (r : Bool) → eqb x (g .search .root) ≡ r → want g asked before (suc e) x ≡ want g asked before e x
-      go false p r q = rw p
-      go true p true q = rw (p, entry-top g x q (suc e), entry-top g x q e)
-      go true p false q = rw (p, entry-unmoved g x q e (c p))
+      go : (m : Bool) → isAsked asked x ≡ m → want g asked before (suc e) x ≡ want g asked before e x
+      go false p = rw p
+      go true p = rw (p, entry-still g x e (c p))
 
 -- which nodes a spare link crosses
 module _ (g : Net) (s : Sound g) (e k : ℕ) (p : Spare g e k) where
@@ -218,9 +216,6 @@ module _ {g : Net} {survey asked : List ℕ} {e k : ℕ} {row₀ : List ℕ} whe
     node-low : a .climb .node < g .nodes
     node-low = omega (arith, node-in, size-is (i .surveyed))
 
-    count-at : knownAt survey (a .climb .node) .count ≡ count (treeOf g) (a .climb .node)
-    count-at = count-is (i .surveyed) _ node-low _ refl
-
   module _ {a b : Side} {row : List ℕ} (i : Between g survey asked e k row₀ a b row) where
     module _ {ranks : List ℕ} (r : Ranked (treeOf g) asked ranks) where
       pub node-ranked : (a .climb .node < nodeLimit) × (a .climb .node < length ranks)
@@ -361,31 +356,16 @@ module _ {g : Net} {survey asked : List ℕ} {e k : ℕ} {row₀ : List ℕ} whe
                 (o .goes-on before _ (i .rows before h) (rw (upTo-out (a .climb .node) (route (treeOf g) (a .from)), not-behind)));
           }
 
-      up-in : treeOf g .up (a .climb .node) < treeOf g .size
-      up-in = closed (i .surveyed) (a .climb .node) (node-in i)
-
-      count-next : knownAt survey (a′ .climb .node) .count ≡ count (treeOf g) (treeOf g .up (a .climb .node))
-      count-next =
-          ap (λ (v : ℕ). knownAt survey v .count) (step .here)
-          ∙ count-is (i .surveyed) (treeOf g .up (a .climb .node)) (omega (arith, up-in, size-is (i .surveyed))) _ refl
-
-      rises : knownAt survey (a .climb .node) .count < knownAt survey (a′ .climb .node) .count
-      rises =
+      other : knownAt survey (b .climb .node) .count ≤ nodeLimit
+      other =
           omega (
             arith,
-            count-at i,
-            count-next,
-            count-rises (treeOf g) (homes (i .surveyed)) (a .climb .node) (node-in i) up-in off-root,
+            count-is (i .surveyed) _ (node-low (between-turn i)) _ refl,
+            count-few (i .surveyed) (b .climb .node),
           )
 
-      most : knownAt survey (a′ .climb .node) .count ≤ nodeLimit
-      most = omega (arith, count-next, count-few (i .surveyed) (treeOf g .up (a .climb .node)))
-
-      other : knownAt survey (b .climb .node) .count ≤ nodeLimit
-      other = omega (arith, count-at (between-turn i), count-few (i .surveyed) (b .climb .node))
-
       pub first-less : ahead survey a′ b < ahead survey a b
-      first-less = omega (arith, rises, most, other)
+      first-less = omega (arith, step-rises stepping step, step-few stepping step, other)
 
       pub second-less : ahead survey b a′ < ahead survey b a
-      second-less = omega (arith, rises, most, other)
+      second-less = omega (arith, step-rises stepping step, step-few stepping step, other)

@@ -24,7 +24,7 @@ use Rattle.table.specs.declared.Offer.{Offer}
 use Rattle.table.specs.declared.Costs.{Costs}
 use Rattle.table.specs.declared.Side.{Side}
 use Rattle.table.specs.Table.{isAsked}
-use Rattle.table.specs.Work.{Entries, rankStep, Offering, Priced, want, OfferedAt, Worth, withinBy}
+use Rattle.table.specs.Work.{Entries, rankStep, Costing, Offering, Priced, want, OfferedAt, Worth, withinBy}
 use Rattle.table.proofs.Prefixes.{entry-offered, links-low}
 use Rattle.table.proofs.Slots.{entry-known, entries-put}
 use Rattle.survey.specs.Known.{count}
@@ -131,6 +131,32 @@ module _ (old : Entry) (c : Costs) (h : noBetter old c ≡ true) where
       rw has-swap
       (λ i. record { state = sym (eqb-true (old .state) swapState has-swap) i; sum = old .sum; incr = old .incr; max = old .max })
 
+-- the entry of one more link, which crosses
+module _ {g : Net} {search : Search} {survey : List ℕ} {e k : ℕ} {s : Side} (h : Costing g survey e k s) (same : g .search ≡ search) where
+  off : eqb (s .climb .node) (g .search .root) ≡ false
+  off = ne-eqb (s .climb .node) (g .search .root) (h .stepping .below)
+
+  near-is :
+      (b : Bool)
+      → b ≡ withinBy (search .depth) (s .climb .hops)
+      → b ≡ within (treeOf g) (g .search .depth) (s .climb .node) (innerEnd (treeOf g) (s .climb .node) (g .link e))
+  unfolding withinBy within
+  near-is b q =
+      q
+      ∙ ap (λ (z : Search). eqb (z .depth) wholeSearch || leb (s .climb .hops) (z .depth)) (sym same)
+      ∙ ap (λ (j : ℕ). eqb (g .search .depth) wholeSearch || leb j (g .search .depth))
+      (h .stepping .carries .along .hops-is ∙ ap (hops (treeOf g) (s .climb .node)) (sym (h .crossing .low)))
+
+  pub grown :
+      {old : Entry} {v : Costs} {b : Bool}
+      → Priced g (s .climb .node) e v → b ≡ withinBy (search .depth) (s .climb .hops) → old ≡ entry (firstLinks g e) (s .climb .node)
+      → offered old b e (s .lower) v ≡ entry (firstLinks g (suc e)) (s .climb .node)
+  grown {old} {v} {b} r q was =
+      ap (λ (o : Entry). offered o b e (s .lower) v) was ∙
+      sym
+      (entry-offered g (s .climb .node) off e (h .crossing .cross) b (near-is b q) v (r .sum-is) (r .incr-is) (r .max-is) (s .lower)
+      (sym (h .crossing .marked)))
+
 module _ {g : Net} {search : Search} {asked survey ranks row : List ℕ} {e k : ℕ} {s : Side}
     (h : Offering g search asked survey ranks row e k s) where
   pub low : s .climb .node < g .nodes
@@ -144,9 +170,6 @@ module _ {g : Net} {search : Search} {asked survey ranks row : List ℕ} {e k : 
 
   pub node-few : s .climb .node < nodeLimit
   node-few = omega (arith, low, small (h .searching .surveyed), size-is (h .searching .surveyed))
-
-  off : eqb (s .climb .node) (g .search .root) ≡ false
-  off = ne-eqb (s .climb .node) (g .search .root) (h .costing .stepping .below)
 
   node-in : s .climb .node < treeOf g .size
   node-in = in-tree (h .searching .surveyed) _ low
@@ -179,17 +202,6 @@ module _ {g : Net} {search : Search} {asked survey ranks row : List ℕ} {e k : 
   pub worth-none : isAsked asked (s .climb .node) ≡ false → Worth g (g .nodes) asked e (s .climb .node) row false
   worth-none z = record { yes = λ w. clash w refl; no = λ w. offered-none z }
 
-  near-is :
-      (b : Bool)
-      → b ≡ withinBy (search .depth) (s .climb .hops)
-      → b ≡ within (treeOf g) (g .search .depth) (s .climb .node) (innerEnd (treeOf g) (s .climb .node) (g .link e))
-  unfolding withinBy within
-  near-is b q =
-      q
-      ∙ ap (λ (z : Search). eqb (z .depth) wholeSearch || leb (s .climb .hops) (z .depth)) (sym (h .search-is))
-      ∙ ap (λ (j : ℕ). eqb (g .search .depth) wholeSearch || leb j (g .search .depth))
-      (h .costing .stepping .carries .along .hops-is ∙ ap (hops (treeOf g) (s .climb .node)) (sym (h .costing .crossing .low)))
-
   -- one that is
   module _ (on : isAsked asked (s .climb .node) ≡ true) {old : Entry} (p : old ≡ entryAt row (s .climb .node)) {v : Costs}
       (r : Priced g (s .climb .node) e v) where
@@ -200,26 +212,17 @@ module _ {g : Net} {search : Search} {asked survey ranks row : List ℕ} {e k : 
     was before f i w =
         p ∙ entry-known _ f before row (s .climb .node) (entry (firstLinks g e) (s .climb .node)) i low (w ∙ want-marked g asked before e (s .climb .node) on)
 
-    -- the entry of one more link
-    grown :
-        (b : Bool)
-        → b ≡ within (treeOf g) (g .search .depth) (s .climb .node) (innerEnd (treeOf g) (s .climb .node) (g .link e))
-        → old ≡ entry (firstLinks g e) (s .climb .node) → offered old b e (s .lower) v ≡ entry (firstLinks g (suc e)) (s .climb .node)
-    grown b q was =
-        ap (λ (o : Entry). offered o b e (s .lower) v) was ∙
-        sym
-        (entry-offered g (s .climb .node) off e (h .costing .crossing .cross) b q v (r .sum-is) (r .incr-is) (r .max-is) (s .lower)
-        (sym (h .costing .crossing .marked)))
-
-    -- which it makes no better
+    -- and which one more link makes no better
     offered-kept : noBetter old v ≡ true → OfferedAt g (g .nodes) asked e (s .climb .node) row row
     offered-kept n =
         offered-still g (g .nodes) asked e (s .climb .node) row
         (λ before f i w.
         let is = was before f i w in
-        let links = links-low g (s .climb .node) off e (subst (λ (o : Entry). eqb (o .state) swapState ≡ true) is (has-swap old v n)) in
+        let links =
+        links-low g (s .climb .node) (off (h .costing) (h .search-is)) e
+        (subst (λ (o : Entry). eqb (o .state) swapState ≡ true) is (has-swap old v n)) in
         let stays = stays-old old v n e (s .lower) (subst (λ (o : Entry). (o .sum .link < e) × (o .incr .link < e) × (o .max .link < e)) (sym is) links) _ in
-        w ∙ want-marked g asked before e (s .climb .node) on ∙ ap entryRow (sym is ∙ sym stays ∙ grown _ refl is)
+        w ∙ want-marked g asked before e (s .climb .node) on ∙ ap entryRow (sym is ∙ sym stays ∙ grown (h .costing) (h .search-is) r refl is)
         ∙ sym (want-marked g asked before (suc e) (s .climb .node) on))
 
     -- what the test says of it
@@ -234,7 +237,7 @@ module _ {g : Net} {search : Search} {asked survey ranks row : List ℕ} {e k : 
         record {
           goes-on =
               λ before f i z.
-              let new-is = w ∙ grown b (near-is b bq) (was before f i z) in
+              let new-is = w ∙ grown (h .costing) (h .search-is) r bq (was before f i z) in
               rw u
               (entries-same _ _ _ before _ (λ y l. told before f new-is y (eqb (s .climb .node) y) refl)
               (entries-put _ f before row (s .climb .node) new i low (omega (arith, i .size, h .searching .room))));

@@ -7,6 +7,7 @@ use Rattle.entries.specs.Row.{pastEntries}
 use Rattle.network.specs.Network.{netOf}
 use Rattle.rows.specs.Count.{rowsTo}
 use Rattle.sound.specs.Surveyed.{soundRow}
+use Rattle.swap.specs.Entry.{entry}
 use Rattle.table.specs.Table.{freshAt, tableVerdict, workVerdict, freshRow, tableRow, entryVerdict, entryAnswer}
 use lib.ListN.{length}
 use mathlib.Core.List.{_++_}
@@ -58,6 +59,13 @@ pub one-check-entry :
     let g = netOf links parents search in
     One (entryVerdict g x)
 one-check-entry links parents search x = one _
+
+-- `table::entry_surveyed`
+pub one-entry-surveyed :
+    (links parents : List ℕ) (search : Search) (survey : List ℕ) (x : ℕ) →
+    let g = netOf links parents search in
+    One (entry g x)
+one-entry-surveyed links parents search survey x = one _
 
 -- `table::entry_of`
 pub one-entry-of :

@@ -171,7 +171,7 @@ module _ (g : Net) (x : ℕ) where
 
   -- the entry of one more link, of a node that is not the root
   module _ (r : eqb x (g .search .root) ≡ false) (l : ℕ) where
-    pub entry-unmoved : crosses (treeOf g) x l (g .link l) ≡ false → entry (firstLinks g (suc l)) x ≡ entry (firstLinks g l) x
+    entry-unmoved : crosses (treeOf g) x l (g .link l) ≡ false → entry (firstLinks g (suc l)) x ≡ entry (firstLinks g l) x
     entry-unmoved c = entry-of (suc l) r ∙ unmoved l c ∙ sym (entry-of l r)
 
     pub entry-offered :
@@ -206,14 +206,29 @@ module _ (g : Net) (x : ℕ) where
       rw (entry-of k r) (swap-low Sum k saved, swap-low Incr k saved, swap-low Max k saved)
 
   -- the root's entry stays
-  pub entry-top : eqb x (g .search .root) ≡ true → (k : ℕ) → entry (firstLinks g k) x ≡ blank rootState
+  entry-top : eqb x (g .search .root) ≡ true → (k : ℕ) → entry (firstLinks g k) x ≡ blank rootState
   unfolding firstLinks
   entry-top r k = entry-root (firstLinks g k) x r
 
+  -- and so does every entry where a link does not cross
+  pub entry-still : (l : ℕ) → crosses (treeOf g) x l (g .link l) ≡ false → entry (firstLinks g (suc l)) x ≡ entry (firstLinks g l) x
+  entry-still l c = go (eqb x (g .search .root)) refl
+    where
+      go : (b : Bool) → eqb x (g .search .root) ≡ b → entry (firstLinks g (suc l)) x ≡ entry (firstLinks g l) x
+      go true r = entry-top r (suc l) ∙ sym (entry-top r l)
+      go false r = entry-unmoved r l c
+
 -- with no link yet, and with all
-pub entry-none : (g : Net) (x : ℕ) → eqb x (g .search .root) ≡ false → entry (firstLinks g 0) x ≡ blank bridgeState
+entry-none : (g : Net) (x : ℕ) → eqb x (g .search .root) ≡ false → entry (firstLinks g 0) x ≡ blank bridgeState
 unfolding entryOf stateOf savedOf crossedOf bestOf someTo bestTo priced
 entry-none g x r = entry-of g x 0 r
+
+pub entry-start : (g : Net) (x : ℕ) → blank (cond (eqb x (g .search .root)) rootState bridgeState) ≡ entry (firstLinks g 0) x
+entry-start g x = go (eqb x (g .search .root)) refl
+  where
+    go : (b : Bool) → eqb x (g .search .root) ≡ b → blank (cond b rootState bridgeState) ≡ entry (firstLinks g 0) x
+    go true r = sym (entry-top g x r 0)
+    go false r = sym (entry-none g x r)
 
 pub entry-all : (g : Net) (x : ℕ) → entry (firstLinks g (g .links)) x ≡ entry g x
 unfolding firstLinks

@@ -34,7 +34,7 @@ pub rank-parts : (c : ℕ) {x : ℕ} → x < nodeLimit → (rankOf c x / rankSte
 unfolding rankOf
 rank-parts c l = (omega (arith, l), omega (arith, l))
 
-rank-high : {c x : ℕ} → x < nodeLimit → c ≤ nodeLimit → rankOf c x < noNode * rankStep
+pub rank-high : {c x : ℕ} → x < nodeLimit → c ≤ nodeLimit → rankOf c x < noNode * rankStep
 unfolding rankOf
 rank-high l m = omega (arith, l, m)
 

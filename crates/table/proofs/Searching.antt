@@ -11,7 +11,7 @@ use Rattle.edition.specs.declared.Search.{Search}
 use Rattle.edition.specs.declared.Entry.{Entry}
 use Rattle.edition.specs.Entries.{rootState, bridgeState, blank}
 use Rattle.network.specs.Network.{Net, netOf, linksIn}
-use Rattle.table.proofs.Prefixes.{entry-top, entry-none, entry-all}
+use Rattle.table.proofs.Prefixes.{entry-start, entry-all}
 use Rattle.entries.specs.Row.{entryRow, entriesIn, standing, putEntry}
 use Rattle.tree.specs.Tree.{treeOf}
 use Rattle.sound.specs.Surveyed.{Surveyed}
@@ -101,11 +101,7 @@ module _ (root : ℕ) (asked before : List ℕ) (n : ℕ) where
 -- before any link
 pub start-want : (g : Net) (asked before : List ℕ) (x : ℕ) → startAt (g .search .root) asked before x ≡ want g asked before 0 x
 unfolding startAt want
-start-want g asked before x = go (eqb x (g .search .root)) refl
-  where
-    go : (b : Bool) → eqb x (g .search .root) ≡ b → startAt (g .search .root) asked before x ≡ want g asked before 0 x
-    go true p = rw (p, entry-top g x p 0)
-    go false p = rw (p, entry-none g x p)
+start-want g asked before x = rw (entry-start g x)
 
 -- link after link
 pub to-none : (g : Net) (n : ℕ) (asked row : List ℕ) → LinkedTo g n asked 0 row row

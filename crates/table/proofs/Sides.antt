@@ -1,4 +1,4 @@
--- A climb from the lower end of a link, with what it carries. Assumes nothing.
+-- A climb from the lower end of a link, with what it carries, and how it ends. Assumes nothing.
 use mathlib.Core.Path.{_≡_, refl, sym, ap, _∙_}
 use mathlib.Core.Bool.{true, false}
 use mathlib.Core.List.{List}
@@ -6,6 +6,7 @@ use Prim.Native.Nat.{ℕ, _+_, _-_, _%_, _^_, _<_, _≤_, max}
 use native.Mathlib.Omega.{arith}
 use lib.Dec.{eqb}
 use borrow.Author.Tests.{ne-eqb}
+use Rattle.edition.specs.Limits.{nodeLimit}
 use Rattle.network.specs.Network.{Net}
 use Rattle.tree.specs.declared.Climb.{Climb}
 use Rattle.tree.specs.Tree.{treeOf, dist, under}
@@ -14,14 +15,16 @@ use Rattle.tree.proofs.Ways.{Home, dist-up, dist-step}
 use Rattle.tree.proofs.Bounded.{under-below}
 use Rattle.tree.proofs.Climbing.{along-start, along-step, on-parent}
 use Rattle.survey.specs.declared.Known.{Known}
-use Rattle.survey.specs.Known.{deepest, aside}
+use Rattle.survey.specs.Known.{count, deepest, aside}
 use Rattle.survey.specs.Row.{nodesIn, knownAt}
 use Rattle.survey.proofs.Inside.{aside-more}
 use Rattle.swap.specs.Work.{reach}
 use Rattle.swap.proofs.Reaching.{reach-start, reach-step}
 use Rattle.table.specs.declared.Side.{Side}
 use Rattle.table.specs.Work.{Starts, Started, Stepping, Stepped}
-use Rattle.table.proofs.Surveys.{size-is, in-tree, homes, closed, small, there, up-is, near-is, turn-is, deep-is, beside-is, dist-few, aside-few}
+use Rattle.table.proofs.Surveys.{size-is, in-tree, homes, closed, small, there, up-is, near-is, turn-is, deep-is, beside-is, count-is}
+use Rattle.table.proofs.Surveys.{dist-few, aside-few, count-few}
+use Rattle.table.proofs.TwoSides.{count-rises}
 
 module _ {g : Net} {row : List ℕ} {z : ℕ} (h : Starts g row z) where
   pub start-there : z < nodesIn row
@@ -181,3 +184,21 @@ module _ {g : Net} {row : List ℕ} {s : Side} (h : Stepping g row s) where
             from-is = refl;
             lower-is = refl;
           }
+
+  -- with each step more nodes are below where the climb is, and never more than there can be
+  module _ {r : Side} (step : Stepped g s r) where
+    count-next : knownAt row (r .climb .node) .count ≡ count (treeOf g) (treeOf g .up (s .climb .node))
+    count-next =
+        ap (λ (v : ℕ). knownAt row v .count) (step .here) ∙ count-is (h .surveyed) (treeOf g .up (s .climb .node)) up-low _ refl
+
+    pub step-rises : knownAt row (s .climb .node) .count < knownAt row (r .climb .node) .count
+    step-rises =
+        omega (
+          arith,
+          count-is (h .surveyed) (s .climb .node) node-low _ refl,
+          count-next,
+          count-rises (treeOf g) (homes (h .surveyed)) (s .climb .node) node-in up-in off,
+        )
+
+    pub step-few : knownAt row (r .climb .node) .count ≤ nodeLimit
+    step-few = omega (arith, count-next, count-few (h .surveyed) (treeOf g .up (s .climb .node)))

@@ -11,8 +11,9 @@ use Rattle.edition.specs.declared.Found.the-variants.{Nothing, At}
 use Rattle.edition.specs.Limits.{nodeLimit, wholeSearch, longest, noNode}
 use Rattle.edition.specs.Entries.{firstEnd, secondEnd, rootState, bridgeState, blank}
 use Rattle.edition.specs.declared.Measure.the-variants.{Sum, Incr, Max}
+use Rattle.network.specs.declared.Link.{Link}
 use Rattle.network.specs.Network.{Net, inService}
-use Rattle.tree.specs.Tree.{Tree, treeOf, route, dist}
+use Rattle.tree.specs.Tree.{Tree, treeOf, route, dist, under}
 use Rattle.table.specs.declared.Costs.{Costs}
 use Rattle.sound.specs.Surveyed.{Surveyed}
 use Rattle.swap.specs.Swap.{innerEnd, lowerMark, crosses, costOf}
@@ -230,3 +231,34 @@ startAt root asked before x =
 pub record LinkedTo (g : Net) (n : ℕ) (asked : List ℕ) (k : ℕ) (row row′ : List ℕ) : Type 0 where
   pub size : length row′ ≡ length row
   pub goes-on : (before : List ℕ) → Entries n (want g asked before 0) before row → Entries n (want g asked before k) before row′
+
+-- what the search for the entry of x alone goes by: a survey, and a row in which the nodes below x, and no others, have the number
+-- that x has
+pub record Telling (g : Net) (x : ℕ) (survey row : List ℕ) : Type 0 where
+  pub surveyed : Surveyed g survey
+  pub low : x < g .nodes
+  pub room : g .nodes ≤ length row
+  pub each : (u : ℕ) → u < g .nodes → eqb (getD row u 0) (getD row x 0) ≡ under (treeOf g) x u
+
+-- a climb that is at x or below it
+pub record Rising (g : Net) (survey : List ℕ) (x : ℕ) (s : Side) : Type 0 where
+  pub surveyed : Surveyed g survey
+  pub carries : Carries (treeOf g) (s .from) s
+  pub low : s .from < g .nodes
+  pub over : under (treeOf g) x (s .climb .node) ≡ true
+
+-- the same climb no less far up
+pub record Risen (g : Net) (survey : List ℕ) (x : ℕ) (s r : Side) : Type 0 where
+  pub rising : Rising g survey x r
+  pub from-is : r .from ≡ s .from
+  pub lower-is : r .lower ≡ s .lower
+
+-- link e, which is l, crosses x, and its first end is below x or not
+pub record Crossed (g : Net) (search : Search) (survey : List ℕ) (x e : ℕ) (l : Link) (first : Bool) : Type 0 where
+  pub surveyed : Surveyed g survey
+  pub search-is : g .search ≡ search
+  pub there : e < g .links
+  pub link-is : g .link e ≡ l
+  pub cross : crosses (treeOf g) x e (g .link e) ≡ true
+  pub first-is : first ≡ under (treeOf g) x (l .first)
+  pub long : l .length ≤ longest

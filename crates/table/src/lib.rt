@@ -6,20 +6,21 @@ ghost use lib.ListN.{length, getD};
 ghost use lib.Dec.{eqb};
 ghost use mathlib.Core.Bool.{true, false, cond};
 ghost use Rattle.entries.specs.Row.{entriesIn, putEntry, pastEntries};
-ghost use Rattle.edition.specs.Entries.{blank, rootState, bridgeState};
-ghost use Rattle.edition.specs.Limits.{nodeLimit};
+ghost use Rattle.edition.specs.Entries.{blank, rootState, bridgeState, firstEnd, secondEnd};
+ghost use Rattle.edition.specs.Limits.{nodeLimit, longest};
 ghost use Rattle.edition.specs.declared.Verdict.the-variants.{Taken};
 ghost use Rattle.network.specs.Network.{Net, netOf, linksIn};
 ghost use Rattle.rows.specs.Count.{rowWith, rowsTo};
-ghost use Rattle.tree.specs.Tree.{treeOf};
+ghost use Rattle.tree.specs.Tree.{treeOf, under};
 ghost use Rattle.survey.specs.Row.{nodesIn, knownAt};
 ghost use Rattle.sound.specs.Sound.{netVerdict};
 ghost use Rattle.sound.specs.Surveyed.{Surveyed, soundRow};
 ghost use Rattle.swap.specs.Entry.{entry};
+ghost use Rattle.swap.specs.Work.{through};
 ghost use Rattle.table.specs.Work.{Starts, Started, Stepping, Stepped, Costing, Priced, Searching, Offering, OfferedAt, Worth, withinBy};
 ghost use Rattle.table.specs.Work.{Climbing, Linked, LinkedTo, Entries, startAt, rankOf, rank, Ranked, Weighed};
-ghost use Rattle.table.specs.Work.{firstRank, Partly, Upward, Joined, Ranking};
-ghost use Rattle.table.specs.Prefix.{better, noBetter, kept, offered};
+ghost use Rattle.table.specs.Work.{firstRank, Partly, Upward, Joined, Ranking, Telling, Rising, Risen, Crossed};
+ghost use Rattle.table.specs.Prefix.{better, noBetter, kept, offered, firstLinks};
 ghost use Rattle.table.specs.Table.{isAsked, freshAt, tableVerdict, workVerdict, freshRow, tableRow, entryVerdict, entryAnswer};
 use edition::Edition;
 use edition::Entry;
@@ -29,6 +30,7 @@ use edition::Search;
 use edition::Swap;
 use edition::Verdict;
 use edition::Why;
+use network::Link;
 use sound::Checked;
 use tree::Climb;
 
@@ -693,20 +695,158 @@ pub fn check_entry(links: &[u16], parents: &[u16], search: Search, x: usize) -> 
     rows::refuse_if(sizes.nodes <= x, Why::NoRoute, x)
 }
 
-// The entry of node x, by a run that works out no other.
-fn search_one(links: &[u16], parents: &[u16], search: Search, survey: &[u64], x: usize) -> Entry
+// Whether u is below x, by a row that tells it.
+fn is_below(ranks: &[u32], x: usize, u: usize) -> bool
+    requires { ⌜ ((g : Net) × (survey : List ℕ) × Telling g x survey (now ranks) × (u < g .nodes)) ⌝ }
+    ensures { λ r.
+        ⌜ ((g : Net) (survey : List ℕ) → Telling g x survey (now (ranks .entry)) → u < g .nodes → r ≡ under (treeOf g) x u) ⌝ }
+{
+    ranks[u] == ranks[x]
+}
+
+// A climb that begins at the first end of a link, or at the second.
+fn end_side(survey: &[u64], l: Link, first: bool) -> Side
+    requires { ⌜ ((g : Net) × Starts g (now survey) (l .first) × Starts g (now survey) (l .second)) ⌝ }
+    ensures { λ r.
+        ⌜ ((g : Net)
+        → Starts g (now (survey .entry)) (l .first)
+        → Starts g (now (survey .entry)) (l .second)
+        → Started g (cond first (l .first) (l .second)) (cond first firstEnd secondEnd) r) ⌝ }
+{
+    if first {
+        return begin_side(survey, l.first as usize, Edition::FIRST);
+    }
+    begin_side(survey, l.second as usize, Edition::SECOND)
+}
+
+// The way through a link: the distances of its ends and its length.
+fn way_through(survey: &[u64], l: Link) -> u64
+    requires { ⌜ ((g : Net) × Starts g (now survey) (l .first) × Starts g (now survey) (l .second) × (l .length ≤ longest)) ⌝ }
+    ensures { λ r.
+        ⌜ ((g : Net)
+        → Starts g (now (survey .entry)) (l .first)
+        → Starts g (now (survey .entry)) (l .second)
+        → r ≡ through (treeOf g) l) ⌝ }
+{
+    let p = survey::known_at(survey, l.first as usize);
+    let q = survey::known_at(survey, l.second as usize);
+    p.near + l.length as u64 + q.near
+}
+
+// A climb from below x, up to x.
+fn climb_to(survey: &[u64], first: Side, x: usize) -> Side
+    requires { ⌜ ((g : Net) × Rising g (now survey) x first) ⌝ }
+    ensures { λ r. ⌜ ((g : Net) → Rising g (now (survey .entry)) x first → Risen g (now (survey .entry)) x first r × (r .climb .node ≡ x)) ⌝ }
+{
+    let mut a = first;
+    while a.climb.node != x {
+        a = a.step(survey);
+    }
+    a
+}
+
+// The entry of x with one more link, e, which crosses x. The end that is below x is its first, or its second.
+fn with_crossed(
+    search: Search,
+    survey: &[u64],
+    x: usize,
+    old: Entry,
+    e: usize,
+    l: Link,
+    first: bool,
+) -> Entry
+    requires { ⌜ ((g : Net) × Crossed g search (now survey) x e l first × (old ≡ entry (firstLinks g e) x)) ⌝ }
+    ensures { λ r.
+        ⌜ ((g : Net)
+        → Crossed g search (now (survey .entry)) x e l first
+        → old ≡ entry (firstLinks g e) x
+        → r ≡ entry (firstLinks g (e + 1)) x) ⌝ }
+{
+    let side = climb_to(survey, end_side(survey, l, first), x);
+    let c = costs_of(survey, side, way_through(survey, l));
+    let climb = side.climb;
+    let near_enough = is_within(search.depth, climb.hops);
+    with_link(old, near_enough, e as u64, side.lower, c)
+}
+
+// The entry of x with one more link, e. A link that does not cross x leaves it.
+fn with_next(
+    links: &[u16],
+    parents: &[u16],
+    search: Search,
+    survey: &[u64],
+    ranks: &[u32],
+    x: usize,
+    old: Entry,
+    e: usize,
+) -> Entry
     requires { let g = netOf (now links) (now parents) search in
-        ⌜ Surveyed g (now survey)
-        × (x < length (now parents)) ⌝ }
+        ⌜ Telling g x (now survey) (now ranks) × (e < linksIn (now links)) × (old ≡ entry (firstLinks g e) x) ⌝ }
+    ensures { λ r.
+        let g = netOf (now (links .entry)) (now (parents .entry)) search in
+        ⌜ r ≡ entry (firstLinks g (e + 1)) x ⌝ }
+{
+    let l = network::link_at(links, e);
+    if !network::in_service(l) {
+        return old;
+    }
+    if network::parent_of(parents, x) as usize == e {
+        return old;
+    }
+    let first = is_below(ranks, x, l.first as usize);
+    if first == is_below(ranks, x, l.second as usize) {
+        return old;
+    }
+    with_crossed(search, survey, x, old, e, l, first)
+}
+
+// The entry of x, from that before any link on, link after link.
+fn carry_entry(
+    links: &[u16],
+    parents: &[u16],
+    search: Search,
+    survey: &[u64],
+    ranks: &[u32],
+    x: usize,
+) -> Entry
+    requires { let g = netOf (now links) (now parents) search in ⌜ Telling g x (now survey) (now ranks) ⌝ }
     ensures { λ r.
         let g = netOf (now (links .entry)) (now (parents .entry)) search in
         ⌜ r ≡ entry g x ⌝ }
 {
+    let m = network::links_in(links);
+    let mut it = first_entry(search, x);
+    let mut e = 0;
+    while e < m {
+        it = with_next(links, parents, search, survey, ranks, x, it, e);
+        e += 1;
+    }
+    it
+}
+
+// The entry of node x, by a survey of the network, which is sound; it works out no other entry, and holds no row of entries.
+pub fn entry_surveyed(
+    links: &[u16],
+    parents: &[u16],
+    search: Search,
+    survey: &[u64],
+    x: usize,
+) -> Entry
+    requires { let g = netOf (now links) (now parents) search in
+        ⌜ Surveyed g (now survey) × (x < length (now parents)) ⌝ }
+    ensures { λ r. let g = netOf (now (links .entry)) (now (parents .entry)) search in ⌜ r ≡ entry g x ⌝ }
+{
     let mut asked = [0u64; Memory::NODES];
     asked[x] = 1;
-    let mut entries = [0u64; Memory::ENTRY_ROW];
-    search_asked(links, parents, search, survey, &asked, &mut entries);
-    entries::entry_at(&entries, x)
+    let mut ranks = [0u32; Memory::NODES];
+    fill_ranks(
+        survey,
+        &asked,
+        search.root as usize,
+        parents.len(),
+        &mut ranks,
+    );
+    carry_entry(links, parents, search, survey, &ranks, x)
 }
 
 // The entry of node x.
@@ -722,7 +862,7 @@ pub fn entry_of(links: &[u16], parents: &[u16], search: Search, x: usize) -> Ent
     }
     let there = rows::refuse_if(parents.len() <= x, Why::NoRoute, x);
     match there {
-        Verdict::Taken => EntryAnswer::Is(search_one(links, parents, search, &survey, x)),
+        Verdict::Taken => EntryAnswer::Is(entry_surveyed(links, parents, search, &survey, x)),
         Verdict::Refused(why) => EntryAnswer::Not(why),
     }
 }

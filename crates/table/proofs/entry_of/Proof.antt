@@ -38,12 +38,12 @@ refuse-if-requires c κs = search needs
 enum-told-2 : tie.Need-enum-told-2
 enum-told-2 c = search needs
 
-slice-aggregate-search-one : tie.Need-slice-aggregate-search-one
-slice-aggregate-search-one c = search needs
+slice-aggregate-entry-surveyed : tie.Need-slice-aggregate-entry-surveyed
+slice-aggregate-entry-surveyed c = search needs
 
-search-one-requires : tie.Need-search-one-requires
+entry-surveyed-requires : tie.Need-entry-surveyed-requires
 unfolding netOf
-search-one-requires c κs =
+entry-surveyed-requires c κs =
     let args = c .before .before .before .before .before .before .before .before .before .before .before .args in
     let held = c .before .before .before .before .before .before .before .before .before .before .shared-slice-known in
     let refuse-if = c .before .before .before .refuse-if in
@@ -66,7 +66,7 @@ returns-2 c =
     let enum-told = c .before .before .before .before .before .enum-told in
     let survey-network = c .before .before .before .before .before .before .before .before .survey-network in
     let taken = sym (survey-network .ensures .0 ∙ verdict-net _ (replicate knownRoom 0) full-room) ∙ enum-told .given .1 in
-    one-is _ _ _ (entry-decided _ _ taken _ (refuse-if .ensures)) (enum-told2 .given .1) _ (c .search-one .ensures)
+    one-is _ _ _ (entry-decided _ _ taken _ (refuse-if .ensures)) (enum-told2 .given .1) _ (c .entry-surveyed .ensures)
 
 returns-3 : tie.Need-returns-3
 unfolding netOf
@@ -88,8 +88,8 @@ entry-of-spec =
     enum-told
     refuse-if-requires
     enum-told-2
-    slice-aggregate-search-one
-    search-one-requires
+    slice-aggregate-entry-surveyed
+    entry-surveyed-requires
     enum-known-there
     returns-2
     returns-3)
