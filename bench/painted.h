@@ -61,3 +61,7 @@ uint64_t painted_change(uint16_t *links, size_t links_length, PAINTED_PARENTS, u
     uint64_t *entries, size_t entries_length, PAINTED_CHANGE);
 
 uint64_t painted_unprotected_map(PAINTED_NETWORK, uint64_t *words, size_t words_length);
+uint64_t painted_forward_fill(PAINTED_NETWORK, uint16_t start, uint16_t failed, uint16_t *ordinary, size_t ordinary_length,
+    uint16_t *detour, size_t detour_length);
+uint64_t painted_forward(PAINTED_NETWORK, uint16_t start, uint16_t failed, uint16_t *ordinary, size_t ordinary_length,
+    uint16_t *detour, size_t detour_length);

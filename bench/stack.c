@@ -26,6 +26,7 @@ struct lent {
     size_t n, m, room, u, z;
     uint64_t entries[DOERAGYEOL_ENTRIES_ROW], marks[NODES], row[NODES], survey[SURVEY], words[DOERAGYEOL_MAP_WORDS], told[DOERAGYEOL_HEADER];
     size_t route[NODES];
+    uint16_t start, failed, ordinary[DOERAGYEOL_ROUTE_ROW], detour[DOERAGYEOL_ROUTE_ROW];
     uint8_t file[DOERAGYEOL_FILE_BYTES], kind;
     size_t file_length, block;
     uint16_t number, used, link, mark, length;
@@ -40,6 +41,7 @@ typedef uint64_t call(struct lent *l);
 #define BYTES l->file + l->block, l->room * BLOCK
 #define STORED l->file, l->file_length, ROW(links), ROW(parents), ROW(entries)
 #define CHANGE l->link, l->mark, l->length
+#define LIST NET, l->start, l->failed, ROW(ordinary), ROW(detour)
 
 // The calls by layers: what each is called, the function, and what it is given.
 #define CALLS(CALL)                                                                                              \
@@ -80,12 +82,17 @@ typedef uint64_t call(struct lent *l);
     CALL("change::check_change", painted_check_change, NET, ROW(entries), CHANGE)                                \
     CALL("change::change", painted_change, NET, ROW(entries), CHANGE)                                            \
     CALL("map::unprotected_map", painted_unprotected_map, NET, ROW(words))                                       \
+    CALL("forward::fill", painted_forward_fill, LIST)                                                            \
+    CALL("forward::forward", painted_forward, LIST)                                                              \
     CALL("doeragyeol_check", doeragyeol_check, NET, ROW(told))                                                   \
     CALL("doeragyeol_table", doeragyeol_table, NET, ROW(entries))                                                \
     CALL("doeragyeol_map", doeragyeol_map, NET, ROW(words), ROW(told))                                           \
     CALL("doeragyeol_change", doeragyeol_change, NET, ROW(entries), CHANGE)                                      \
     CALL("doeragyeol_write", doeragyeol_write, NET, ROW(file), ROW(told))                                        \
-    CALL("doeragyeol_read", doeragyeol_read, STORED, ROW(told))
+    CALL("doeragyeol_read", doeragyeol_read, STORED, ROW(told))                                                  \
+    CALL("doeragyeol_forward_sum", doeragyeol_forward_sum, LIST, ROW(told))                                      \
+    CALL("doeragyeol_forward_incr", doeragyeol_forward_incr, LIST, ROW(told))                                    \
+    CALL("doeragyeol_forward_max", doeragyeol_forward_max, LIST, ROW(told))
 
 #define RUN(name, function, ...)                   \
     static uint64_t run_##function(struct lent *l) \
@@ -192,6 +199,15 @@ static size_t lowest(struct lent *l)
     return found;
 }
 
+// The node on the route of u whose parent is the root; u where that is the root.
+static size_t topmost(struct lent *l, size_t u)
+{
+    size_t c = u;
+    while (c != l->root && painted_up(NET, c) != l->root)
+        c = painted_up(NET, c);
+    return c;
+}
+
 // The first link outside the tree, or the last of all.
 static size_t spare(const struct network *net)
 {
@@ -201,8 +217,8 @@ static size_t spare(const struct network *net)
     return e;
 }
 
-// Lends a network: its rows, its table, its file with the last block, its lowest node twice, and a change of a link outside the
-// tree to what it is. Answers 0 where the network is refused.
+// Lends a network: its rows, its table, its file with the last block, its lowest node twice, which is cut off by the failure of the
+// topmost one above it, and a change of a link outside the tree to what it is. Answers 0 where the network is refused.
 static int lend(struct lent *l, const struct network *net)
 {
     *l = (struct lent){.n = net->n, .m = net->m, .root = (uint16_t)net->root, .depth = (uint16_t)net->depth, .room = 1};
@@ -217,6 +233,8 @@ static int lend(struct lent *l, const struct network *net)
     l->file_length = l->told[0];
     set_block(l, l->file_length / BLOCK - 1);
     l->u = l->z = lowest(l);
+    l->start = (uint16_t)l->u;
+    l->failed = (uint16_t)topmost(l, l->u);
     l->link = (uint16_t)spare(net);
     l->mark = net->links[l->link].mark;
     l->length = net->links[l->link].length;
@@ -236,11 +254,13 @@ static void one_deep(struct lent *l)
 static void at_the_root(struct lent *l)
 {
     l->u = l->root;
+    l->start = l->root;
 }
 
 static void no_node(struct lent *l)
 {
     l->u = l->n;
+    l->start = (uint16_t)l->n;
 }
 
 static void too_many_nodes(struct lent *l)

@@ -4,17 +4,9 @@
  * refused prints `FILE: refused N P` on standard error and ends with 1; a call that is none, a file that cannot be read, or
  * lines that cannot be printed, end with 2.
  */
-#include "doeragyeol.h"
+#include "filed.h"
 
-#include <stdio.h>
 #include <string.h>
-
-/* Room for what any file has, and for one byte more, by which a longer file is seen. */
-static uint8_t file[DOERAGYEOL_FILE_BYTES + 1];
-static uint16_t links[DOERAGYEOL_LINKS_ROW];
-static uint16_t parents[DOERAGYEOL_PARENTS_ROW];
-static uint64_t entries[DOERAGYEOL_ENTRIES_ROW];
-static uint64_t header[DOERAGYEOL_HEADER];
 
 /* The measures: their names, and where the swap link and the mark of its lower end stand in an entry. */
 static const struct measure {
@@ -33,18 +25,6 @@ static const struct measure *measure_of(const char *name)
         if (strcmp(measures[i].name, name) == 0)
             return measures + i;
     return NULL;
-}
-
-/* Reads a file, or its first bytes where it has more than any stored file. Answers 0 where it can be read. */
-static int read_file(const char *name, size_t *length)
-{
-    FILE *from = fopen(name, "rb");
-    if (from == NULL)
-        return -1;
-    *length = fread(file, 1, sizeof file, from);
-    int bad = ferror(from);
-    fclose(from);
-    return bad ? -1 : 0;
 }
 
 /* Prints the swap link of an entry, and its ends from the lower one to the other. */
@@ -82,24 +62,11 @@ int main(int count, char **words)
         fprintf(stderr, "usage: load FILE sum|incr|max\n");
         return 2;
     }
-    size_t length = 0;
-    if (read_file(words[1], &length) != 0) {
-        fprintf(stderr, "%s: cannot be read\n", words[1]);
-        return 2;
-    }
-    uint32_t word = doeragyeol_read(file, length, links, DOERAGYEOL_LINKS_ROW, parents, DOERAGYEOL_PARENTS_ROW, entries,
-                                    DOERAGYEOL_ENTRIES_ROW, header, DOERAGYEOL_HEADER);
-    if (word != DOERAGYEOL_DONE) {
-        fprintf(stderr, "%s: refused %u %u\n", words[1], (unsigned)doeragyeol_number(word),
-                (unsigned)doeragyeol_place(word));
-        return 1;
-    }
+    int ended = load_file(words[1]);
+    if (ended != 0)
+        return ended;
     for (size_t node = 0; node < header[0]; node++)
         if (node != header[2])
             print_node(node, by);
-    if (fflush(stdout) != 0 || ferror(stdout)) {
-        fprintf(stderr, "standard output: cannot be written\n");
-        return 2;
-    }
-    return 0;
+    return printed();
 }

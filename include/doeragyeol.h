@@ -1,7 +1,7 @@
 /*
  * Doeragyeol: an archive of backup routes whose every answer is proved.
  *
- * Six functions over numbers and lent rows, and the version. A row is a pointer and then how many numbers it has. Link with
+ * Nine functions over numbers and lent rows, and the version. A row is a pointer and then how many numbers it has. Link with
  * libdoeragyeol.a (x86-64 Linux), which `rt staticlib doeragyeol` proves and writes to target/staticlib/. The library
  * calls nothing but memset, keeps nothing between calls, has no heap, and takes less than 100 KiB of stack. Calls on
  * rows of their own may run at the same time.
@@ -14,9 +14,9 @@
  * - a row that is written overlaps no other row of the call, and nobody else writes to a row during the call.
  *
  * Each function answers one word: 0, or the first refusal in the order that it names, whose number and place the two
- * functions below take out. A row that is lent for values (sizes, told, size, header) and is too short for them is refused
- * by 10, in 10's place in the order: behind 1 to 9, and before 24. On a refusal nothing lent is changed. Otherwise a row
- * gets what is said at its beginning, and the rest of it stays.
+ * functions below take out. A row that is lent for values (sizes, told, size, header, way) and is too short for them is
+ * refused by 10, in 10's place in the order: behind 1 to 9, and before 15 to 17 and 24. On a refusal nothing lent is
+ * changed. Otherwise a row gets what is said at its beginning, and the rest of it stays.
  *
  * The rows:
  *
@@ -45,9 +45,9 @@ extern "C" {
  * another version does not link. Where the linker drops unused sections (--gc-sections) this takes a compiler that knows
  * `retain` (GCC 11, Clang 13). The header of version 2 had no `retain`: compile its callers anew.
  */
-#define DOERAGYEOL_VERSION 3
+#define DOERAGYEOL_VERSION 4
 
-uint32_t doeragyeol_version_3(void);
+uint32_t doeragyeol_version_4(void);
 
 #if defined(__GNUC__)
 #if defined(__has_attribute)
@@ -55,7 +55,7 @@ uint32_t doeragyeol_version_3(void);
 __attribute__((retain))
 #endif
 #endif
-__attribute__((used)) static uint32_t (*const doeragyeol_made_for)(void) = doeragyeol_version_3;
+__attribute__((used)) static uint32_t (*const doeragyeol_made_for)(void) = doeragyeol_version_4;
 #endif
 
 /* The limits, and how long the rows are that hold all that there can be. */
@@ -70,11 +70,19 @@ __attribute__((used)) static uint32_t (*const doeragyeol_made_for)(void) = doera
 #define DOERAGYEOL_MAP_WORDS 8
 #define DOERAGYEOL_FILE_BYTES 32256
 
+/* How many numbers each of the forwarder's two rows must have: as many as a way to the root can have nodes. */
+#define DOERAGYEOL_ROUTE_ROW (2 * DOERAGYEOL_NODES - 2)
+
 /* How many values a call answers in a lent row. */
 #define DOERAGYEOL_SIZES 2
 #define DOERAGYEOL_TOLD 2
 #define DOERAGYEOL_SIZE 1
 #define DOERAGYEOL_HEADER 4
+#define DOERAGYEOL_WAY 3
+
+/* Which row of the forwarder applies, the first value of way. */
+#define DOERAGYEOL_ORDINARY 0
+#define DOERAGYEOL_DETOUR 1
 
 /* The depth that is the whole search, and no link and no node where one is named. */
 #define DOERAGYEOL_WHOLE 65535
@@ -131,6 +139,9 @@ __attribute__((used)) static uint32_t (*const doeragyeol_made_for)(void) = doera
 #define DOERAGYEOL_LINK_MISSING 11 /* the changed link does not exist: place 0 */
 #define DOERAGYEOL_TREE_LINK 12    /* the changed link is a parent link: the link */
 #define DOERAGYEOL_BREAKS_SHORT 13 /* the change would break shortness: the link */
+#define DOERAGYEOL_BAD_START 15    /* the start is no node: place 0 */
+#define DOERAGYEOL_BAD_FAILED 16   /* the failed node is no node, or the root: place 0 */
+#define DOERAGYEOL_NO_SWAP 17      /* the start is cut off, and the failed node has no swap link: the failed node */
 #define DOERAGYEOL_BAD_LENGTH 20   /* the file's length is wrong: place 0 */
 #define DOERAGYEOL_BAD_CHECK 21    /* the block's check is wrong: the block */
 #define DOERAGYEOL_BAD_BLOCK 22    /* the block's kind, edition, number, used count or filler is wrong: the block */
@@ -199,6 +210,28 @@ uint32_t doeragyeol_write(const uint16_t *links, size_t links_length, const uint
 uint32_t doeragyeol_read(const uint8_t *file, size_t file_length, uint16_t *links, size_t links_length,
                          uint16_t *parents, size_t parents_length, uint64_t *entries, size_t entries_length,
                          uint64_t *header, size_t header_length);
+
+/*
+ * The way from a start to the root while the tree link of a node has failed: its nodes in the order of passing, the start
+ * first and the root last. Where the start is not cut off, that is its route, into ordinary; else the route up to the failed
+ * node, down the tree to the lower end of the failed node's swap link, across that link, and by the route of its other end,
+ * into detour. The swap link is the one that doeragyeol_table names under the measure in the function's name. way (room for
+ * 3) gets DOERAGYEOL_ORDINARY or DOERAGYEOL_DETOUR for the row that applies, how many nodes are put there, and how long the
+ * way is, its steps added. The other row stays as it is. Either row, ordinary or detour, is too short where it has fewer
+ * than DOERAGYEOL_ROUTE_ROW numbers, also where the way would fit. Refused by 1 to 10, 15, 16 and 17.
+ */
+uint32_t doeragyeol_forward_sum(const uint16_t *links, size_t links_length, const uint16_t *parents,
+                                size_t parents_length, uint16_t root, uint16_t depth, uint16_t start, uint16_t failed,
+                                uint16_t *ordinary, size_t ordinary_length, uint16_t *detour, size_t detour_length,
+                                uint64_t *way, size_t way_length);
+uint32_t doeragyeol_forward_incr(const uint16_t *links, size_t links_length, const uint16_t *parents,
+                                 size_t parents_length, uint16_t root, uint16_t depth, uint16_t start, uint16_t failed,
+                                 uint16_t *ordinary, size_t ordinary_length, uint16_t *detour, size_t detour_length,
+                                 uint64_t *way, size_t way_length);
+uint32_t doeragyeol_forward_max(const uint16_t *links, size_t links_length, const uint16_t *parents,
+                                size_t parents_length, uint16_t root, uint16_t depth, uint16_t start, uint16_t failed,
+                                uint16_t *ordinary, size_t ordinary_length, uint16_t *detour, size_t detour_length,
+                                uint64_t *way, size_t way_length);
 
 #ifdef __cplusplus
 }

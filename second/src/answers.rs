@@ -4,6 +4,7 @@ use crate::block::payload;
 use crate::change::{change, Change};
 use crate::check::check;
 use crate::file::write;
+use crate::forward::{forward, Asked, Kind, Told, NAMED_MEASURES};
 use crate::limits::*;
 use crate::map::map;
 use crate::probe::*;
@@ -16,6 +17,8 @@ use std::fmt::{Display, Write};
 /// The last line of most answers: nothing past the answer is ever written.
 const REST: &str = "rest kept\n";
 const LINKS: &str = "links kept\n";
+/// The last lines of op 9: a row keeps what the forwarder does not put there.
+const BOTH_ROWS: &str = "ordinary kept\ndetour kept\n";
 
 /// All that the probe must print for an input.
 pub fn answers(input: &[u8]) -> String {
@@ -83,6 +86,7 @@ pub fn answer(case: &Case) -> String {
         WRITE => write_answer(case),
         READ => read_answer(case),
         PAYLOAD_OF => block_answer(case),
+        FORWARD => forward_answer(case),
         ROUTE => route_answer(case),
         DISTANCE => distance_answer(case),
         MEET => meet_answer(case),
@@ -243,6 +247,30 @@ fn block_answer(case: &Case) -> String {
         Ok(part) => "block ok\n".to_string() + &byte_lines(part),
         Err(refusal) => refused("block", &refusal),
     }
+}
+
+fn forward_answer(case: &Case) -> String {
+    let rows = case.rows();
+    let [start, failed, c] = case.abc;
+    let asked = Asked {
+        start,
+        failed,
+        measure: NAMED_MEASURES[usize::from(c) % MEASURES].1,
+    };
+    let [mut ordinary, mut detour] = rooms_of(case.room).map(|room| vec![ROW_FILL; room]);
+    let lent = [&mut ordinary[..], &mut detour[..]];
+    let text = match forward(&rows.lend(), case.depth, &asked, lent) {
+        Ok(Told { kind, count, .. }) => {
+            let row = match kind {
+                Kind::Ordinary => ordinary,
+                Kind::Detour => detour,
+            };
+            let nodes = spaced(&row[..count]);
+            format!("forward ok {}\nroute{nodes}\n", kind.word())
+        }
+        Err(refusal) => refused("forward", &refusal),
+    };
+    text + BOTH_ROWS
 }
 
 fn route_answer(case: &Case) -> String {

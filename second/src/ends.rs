@@ -5,8 +5,9 @@ use crate::limits::*;
 use crate::named::Named;
 use crate::network::Rows;
 
-/// Links in service, root 0.
-fn served(parents: &[u16], links: &[[u16; 3]]) -> Rows {
+/// A network whose links are all in service, with root 0 and the parent links
+/// of the other nodes.
+pub fn served(parents: &[u16], links: &[[u16; 3]]) -> Rows {
     Rows {
         parents: [&[NO_LINK], parents].concat(),
         links: links

@@ -2,7 +2,8 @@
 //!
 //! It is written from the requirements' definitions and shares nothing with the
 //! proved library. It makes cases for the probe and series of changes, says
-//! what must be printed for them, lists stored files and writes sample files.
+//! what must be printed for them, lists stored files, tells the way to the root
+//! on the networks that they hold, and writes sample files.
 
 pub mod answers;
 pub mod block;
@@ -13,6 +14,8 @@ pub mod ends;
 pub mod faults;
 pub mod file;
 pub mod file_faults;
+pub mod filed;
+pub mod forward;
 pub mod harbour;
 pub mod limits;
 pub mod listing;

@@ -41,6 +41,9 @@ pub const MEASURES: usize = 3;
 pub const MAP_WORDS: usize = 8;
 /// Nodes in a word of the map.
 pub const WORD_BITS: usize = 64;
+/// Numbers in each of the two rows that are lent to the forwarder: twice the
+/// nodes less two.
+pub const ROUTE_ROW: usize = 2 * MOST_NODES - 2;
 
 // Stored form.
 
@@ -87,6 +90,8 @@ pub const PROBE_LINKS: usize = 8_400;
 pub const PROBE_BYTES: usize = 33_000;
 /// The most room of a case.
 pub const PROBE_ROOM: usize = 40_000;
+/// The most numbers in each of the forwarder's rows of a case.
+pub const PROBE_ROUTE: usize = 5_000;
 /// What a lent row holds beforehand.
 pub const ROW_FILL: u16 = 7;
 /// What a lent file holds beforehand.

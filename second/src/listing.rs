@@ -1,10 +1,11 @@
 //! The listing of a stored file.
 
+use crate::filed::{filed, Filed};
 use crate::limits::*;
 use crate::map::map;
 use crate::network::Rows;
-use crate::reader::{read, Said};
-use crate::refusal::{refuse, Refusal, Why};
+use crate::reader::Said;
+use crate::refusal::Refusal;
 use crate::table::State;
 
 const SWAP: u64 = State::Swap as u64;
@@ -19,23 +20,14 @@ pub fn listing(file: &[u8]) -> String {
 }
 
 fn accepted(file: &[u8]) -> Result<String, Refusal> {
-    if file.len() > LONGEST_LISTED {
-        return refuse(Why::FileLength, 0);
-    }
-    let mut links = vec![0; LINK_WIDTH * MOST_LINKS];
-    let mut parents = vec![0; MOST_NODES];
-    let mut row = vec![0; ENTRY_WIDTH * MOST_NODES];
-    let said = read(file, &mut links, &mut parents, &mut row)?;
-    links.truncate(LINK_WIDTH * said.m);
-    parents.truncate(said.n);
-    let rows = Rows {
-        parents,
-        links,
-        root: said.root,
-    };
+    let Filed {
+        said,
+        rows,
+        entries,
+    } = filed(file)?;
     let mut text = first_line(&said);
     for x in (0..said.n).filter(|&x| x != said.root as usize) {
-        let entry = &row[ENTRY_WIDTH * x..ENTRY_WIDTH * (x + 1)];
+        let entry = &entries[ENTRY_WIDTH * x..ENTRY_WIDTH * (x + 1)];
         text += &format!("{} {} {}\n", x, rows.parents[x], entry_words(entry));
     }
     Ok(text + &last_line(&rows, said.depth)?)

@@ -3,6 +3,8 @@
 use second::answers::{answers, first_difference};
 use second::cases::{input, kept, largest, ops, series};
 use second::file::write;
+use second::filed::way_line;
+use second::forward::{Asked, NAMED_MEASURES};
 use second::harbour::harbour;
 use second::limits::{LONGEST_LISTED, WHOLE};
 use second::listing::listing;
@@ -15,7 +17,8 @@ use std::process::ExitCode;
 
 const USAGE: &str =
     "usage: second list | harbour | kept | largest [OP] | expect | compare PRINTED | cases OPS SEED COUNT | files DIR SEED COUNT
-       second series SEED COUNT | series-expect";
+       second series SEED COUNT | series-expect
+       second forward START FAILED sum|incr|max";
 
 fn main() -> ExitCode {
     let words: Vec<String> = args().skip(1).collect();
@@ -37,6 +40,10 @@ fn main() -> ExitCode {
 fn run(words: &[&str]) -> Option<Result<()>> {
     match words {
         ["list"] => Some(answer_input(listing)),
+        ["forward", start, failed, measure] => {
+            let asked = asked(start, failed, measure)?;
+            Some(answer_input(|file| way_line(file, &asked)))
+        }
         ["expect"] => Some(answer_input(answers)),
         ["compare", printed] => Some(compare(Path::new(printed))),
         ["series-expect"] => Some(answer_input(lines)),
@@ -60,6 +67,16 @@ fn run(words: &[&str]) -> Option<Result<()>> {
     }
 }
 
+/// What three words ask of the forwarder; none where they ask nothing.
+fn asked(start: &str, failed: &str, measure: &str) -> Option<Asked> {
+    let named = NAMED_MEASURES.iter().find(|named| named.0 == measure)?;
+    Some(Asked {
+        start: start.parse().ok()?,
+        failed: failed.parse().ok()?,
+        measure: named.1,
+    })
+}
+
 fn harbour_file() -> Vec<u8> {
     let mut room = vec![0; LONGEST_LISTED];
     let length = write(&harbour().lend(), WHOLE, &mut room).expect("Harbour is sound");
@@ -74,7 +91,7 @@ fn print(bytes: &[u8]) -> Result<()> {
 }
 
 /// Prints what the function says of the standard input.
-fn answer_input(function: fn(&[u8]) -> String) -> Result<()> {
+fn answer_input(function: impl Fn(&[u8]) -> String) -> Result<()> {
     let mut bytes = Vec::new();
     stdin().lock().read_to_end(&mut bytes)?;
     print(function(&bytes).as_bytes())

@@ -12,6 +12,7 @@ pub const CHANGE_UNFILLED: u16 = 5;
 pub const WRITE: u16 = 6;
 pub const READ: u16 = 7;
 pub const PAYLOAD_OF: u16 = 8;
+pub const FORWARD: u16 = 9;
 
 /// The project's own ops, of docs/OPS.md.
 pub const ROUTE: u16 = 101;
@@ -22,12 +23,23 @@ pub const NODE: u16 = 105;
 
 /// Whether the op is in one of the probe's tables.
 pub fn is_op(op: u16) -> bool {
-    (CHECK..=PAYLOAD_OF).contains(&op) || (ROUTE..=NODE).contains(&op)
+    (CHECK..=FORWARD).contains(&op) || (ROUTE..=NODE).contains(&op)
 }
 
 /// Whether bytes follow the parents, not link numbers.
 pub fn takes_bytes(op: u16) -> bool {
     op == READ || op == PAYLOAD_OF
+}
+
+/// The room of op 9, two words of the head: how long the ordinary row is that
+/// is lent, and how long the detour row is.
+pub fn two_rooms([ordinary, detour]: [usize; 2]) -> usize {
+    ordinary << 16 | detour
+}
+
+/// The two rooms that a room of op 9 is.
+pub fn rooms_of(room: usize) -> [usize; 2] {
+    [room >> 16, room & 0xFFFF]
 }
 
 /// A case. Ops 7 and 8 use `bytes`, all others `links`.
@@ -155,10 +167,11 @@ impl Head {
         };
         let [a, b, c] = self.abc.map(usize::from);
         let rows = a > PROBE_LINKS || b > PROBE_PARENTS || c > PROBE_ROOM;
-        self.parents > PROBE_PARENTS
-            || self.rest > most
-            || self.room > PROBE_ROOM
-            || (self.op == READ && rows)
+        let room = match self.op {
+            FORWARD => rooms_of(self.room).iter().any(|&room| room > PROBE_ROUTE),
+            _ => self.room > PROBE_ROOM,
+        };
+        self.parents > PROBE_PARENTS || self.rest > most || room || (self.op == READ && rows)
     }
 }
 

@@ -29,6 +29,12 @@ pub enum Why {
     TreeLink = 12,
     /// The change would break shortness.
     ChangeShortness = 13,
+    /// The start is not a node.
+    Start = 15,
+    /// The failed node is not a node, or is the root.
+    Failed = 16,
+    /// The failed node has no swap link, and the start is cut off.
+    NoSwap = 17,
     /// The file's length is wrong.
     FileLength = 20,
     /// The block's check is wrong.

@@ -61,6 +61,13 @@ fn every_refusal_of_every_op_is_met() {
     let file = [&network[..], &[20, 21, 22, 24]].concat();
     assert_eq!(verdicts(&fixed(7)), set(&file));
     assert_eq!(verdicts(&fixed(8)), set(&[0, 20, 21, 22]));
+    assert_eq!(verdicts(&fixed(9)), forward_verdicts());
+    assert_eq!(verdicts(&kept_of(9)), forward_verdicts());
+}
+
+/// The verdicts of the forwarder.
+fn forward_verdicts() -> BTreeSet<u16> {
+    (0..=10).chain(15..=17).collect()
 }
 
 /// The verdicts of the project's own ops.
@@ -241,6 +248,185 @@ fn every_pair_of_network_faults_is_met() {
     }
 }
 
+/// Whether the parents lead from u to x, with the hops; 0 where u is x.
+fn hops_to(case: &Case, u: usize, x: usize) -> Option<usize> {
+    let (n, mut here) = (case.parents.len(), u);
+    for hops in 0..=n {
+        if here == x {
+            return Some(hops);
+        }
+        if here >= n || here == case.root as usize {
+            return None;
+        }
+        here = parent(case, here)?;
+    }
+    None
+}
+
+/// Whether a link in service, but for the parent link of x, has one end from
+/// which parents lead to x, within the depth, and one from which they do not.
+fn has_swap(case: &Case, x: usize) -> bool {
+    let own = case.parents.get(x).map(|&e| e as usize);
+    let mut records = case.links.chunks_exact(4).enumerate();
+    records.any(|(e, r)| {
+        let ends = [r[0], r[1]].map(|end| hops_to(case, end as usize, x));
+        let hops = match ends {
+            [Some(hops), None] | [None, Some(hops)] => hops,
+            _ => return false,
+        };
+        r[3] == 1 && Some(e) != own && (case.depth == 65_535 || hops <= case.depth as usize)
+    })
+}
+
+/// A cause for the forwarder to refuse, beside those of a network.
+#[derive(Clone, Copy, PartialEq, Eq, PartialOrd, Ord, Debug)]
+enum Cause {
+    Network(u16),
+    OrdinaryRow,
+    DetourRow,
+    Start,
+    NoFailed,
+    RootFailed,
+    NoSwap,
+}
+
+const OWN_CAUSES: [Cause; 6] = [
+    Cause::OrdinaryRow,
+    Cause::DetourRow,
+    Cause::Start,
+    Cause::NoFailed,
+    Cause::RootFailed,
+    Cause::NoSwap,
+];
+
+impl Cause {
+    fn number(self) -> u16 {
+        match self {
+            Cause::Network(number) => number,
+            Cause::OrdinaryRow | Cause::DetourRow => 10,
+            Cause::Start => 15,
+            Cause::NoFailed | Cause::RootFailed => 16,
+            Cause::NoSwap => 17,
+        }
+    }
+}
+
+/// The causes that a case gives the forwarder, each asked alone. No link
+/// crosses the root, nor what is no node; and where the start or the failed node
+/// is none, the start has no way without a swap link.
+fn forward_causes(case: &Case) -> BTreeSet<Cause> {
+    let n = case.parents.len();
+    let [start, failed, _] = case.abc.map(usize::from);
+    let cut = start.max(failed) >= n || hops_to(case, start, failed).is_some();
+    let own = OWN_CAUSES.into_iter().filter(|cause| match cause {
+        Cause::OrdinaryRow => case.room >> 16 < 1_022,
+        Cause::DetourRow => case.room & 0xFFFF < 1_022,
+        Cause::Start => start >= n,
+        Cause::NoFailed => failed >= n,
+        Cause::RootFailed => failed == case.root as usize,
+        _ => cut && !has_swap(case, failed),
+    });
+    let network = causes(case).into_iter().map(Cause::Network);
+    network.chain(own).collect()
+}
+
+/// Of the causes of each case the first in order is told, and where there is
+/// none the case is answered.
+#[test]
+fn the_first_cause_is_told() {
+    let mut rng = Rng::new(42);
+    let mut cases = fixed(9);
+    cases.extend((0..2_000).map(|_| random(&mut rng, 9)));
+    for case in cases {
+        let first = forward_causes(&case).into_iter().map(Cause::number).min();
+        assert_eq!(verdict(&case).0, first.unwrap_or(0), "{case:?}");
+    }
+}
+
+/// For every cause of the forwarder, and every other of it or of a network,
+/// some fixed case has both, and the first of them in order is told; and some
+/// has it alone. Only where the root is no node the failed node can be both the
+/// root and none, and neither has a swap link.
+#[test]
+fn every_pair_of_forward_faults_is_met() {
+    let cases = fixed(9);
+    let found: Vec<(u16, BTreeSet<Cause>)> = cases
+        .iter()
+        .map(|case| (verdict(case).0, forward_causes(case)))
+        .collect();
+    let network = (1..=9).map(Cause::Network);
+    let all: Vec<Cause> = network.chain(OWN_CAUSES).collect();
+    let mut pairs = 0;
+    for (i, &two) in all.iter().enumerate().skip(9) {
+        for &one in &all[..i] {
+            let met = found.iter().any(|(told, causes)| {
+                *told == one.number() && causes.contains(&one) && causes.contains(&two)
+            });
+            let never = (one, two) == (Cause::NoFailed, Cause::RootFailed);
+            assert_eq!(met, !never, "{one:?} with {two:?}");
+            pairs += usize::from(met);
+        }
+        let alone = |causes: &BTreeSet<Cause>| causes.iter().all(|&cause| cause == two);
+        let met = found
+            .iter()
+            .any(|(told, causes)| *told == two.number() && alone(causes));
+        let never = [Cause::NoFailed, Cause::RootFailed].contains(&two);
+        assert_eq!(met, !never, "{two:?} alone");
+    }
+    assert_eq!(pairs, 9 * 6 + 14);
+}
+
+/// The way of a case of the forwarder that is answered: whether it is a detour,
+/// and its nodes.
+fn way(case: &Case) -> Option<(bool, Vec<u16>)> {
+    let text = answer(case);
+    let (first, rest) = text.split_once('\n').unwrap();
+    let nodes = rest.lines().next().unwrap().strip_prefix("route ")?;
+    let nodes = nodes.split(' ').map(|word| word.parse().unwrap());
+    Some((first == "forward ok detour", nodes.collect()))
+}
+
+/// Of random cases of the forwarder a sixth at least has an ordinary way and a
+/// quarter a detour, some of these with a node twice; and every refusal is met.
+#[test]
+fn the_forwarder_at_random() {
+    let mut rng = Rng::new(43);
+    let cases: Vec<Case> = (0..3_000).map(|_| random(&mut rng, 9)).collect();
+    let told: Vec<u16> = cases.iter().map(|case| verdict(case).0).collect();
+    assert_eq!(set(&told), forward_verdicts());
+    let count = |number: u16| told.iter().filter(|&&told| told == number).count();
+    for (number, least) in [(10, 150), (15, 100), (16, 100), (17, 200)] {
+        assert!(count(number) > least, "{number}: {}", count(number));
+    }
+    for number in 1..=9 {
+        assert!(count(number) > 10, "{number}: {}", count(number));
+    }
+    let (mut ordinary, mut detours, mut twice) = (0, 0, 0);
+    for (is_detour, nodes) in cases.iter().filter_map(way) {
+        ordinary += usize::from(!is_detour);
+        detours += usize::from(is_detour);
+        let once: BTreeSet<u16> = nodes.iter().copied().collect();
+        twice += usize::from(once.len() < nodes.len());
+    }
+    assert!(ordinary > 3_000 / 6, "{ordinary}");
+    assert!(detours > 3_000 / 4 && twice > 100, "{detours} {twice}");
+    let measures = cases.iter().map(|case| case.abc[2]);
+    let measures: BTreeSet<(bool, u16)> = measures.map(|c| (c > 2, c % 3)).collect();
+    assert_eq!(measures.len(), 6);
+}
+
+/// The longest way that there is stands among the kept, and a way of one node.
+#[test]
+fn the_longest_way_is_among_the_kept() {
+    let ways: Vec<(bool, Vec<u16>)> = kept_of(9).iter().filter_map(way).collect();
+    let most = |detour: bool| {
+        let of_kind = ways.iter().filter(|way| way.0 == detour);
+        of_kind.map(|way| way.1.len()).max()
+    };
+    assert_eq!((most(true), most(false)), (Some(1_022), Some(511)));
+    assert!(ways.contains(&(false, vec![0])));
+}
+
 #[test]
 fn the_same_arguments_give_the_same_cases() {
     let ops = [1, 4, 7, 8];
@@ -261,7 +447,7 @@ fn an_input_holds_what_was_asked() {
     assert_eq!(after, [3, 8, 3, 8, 3, 8]);
 }
 
-/// Over all endings: five stop as unknown, ten as too long.
+/// Over all endings: five stop as unknown, thirteen as too long.
 #[test]
 fn every_ending_is_met() {
     let last = |seed: u64| {
@@ -270,7 +456,7 @@ fn every_ending_is_met() {
     };
     let lines: Vec<String> = (0..ENDINGS).map(last).collect();
     let count = |line: &str| lines.iter().filter(|l| l.as_str() == line).count();
-    assert_eq!((count("unknown"), count("too long")), (5, 10));
+    assert_eq!((count("unknown"), count("too long")), (5, 13));
 }
 
 #[test]
@@ -279,7 +465,8 @@ fn lists_of_ops() {
     assert_eq!(ops("1-8").map(|list| list.len()), Some(8));
     let own = Some(vec![8, 101, 102, 103, 104, 105]);
     assert_eq!(ops("8,101-105"), own);
-    for wrong in ["", "0", "9", "1-9", "5-3", "x", "1,,2"] {
+    assert_eq!(ops("9,8"), Some(vec![9, 8]));
+    for wrong in ["", "0", "10", "1-10", "5-3", "x", "1,,2"] {
         assert_eq!(ops(wrong), None);
     }
     for wrong in ["100", "106", "8-101", "101-106"] {

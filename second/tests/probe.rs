@@ -149,6 +149,47 @@ fn the_block_reader() {
     assert_eq!(text, "block refused 22 9\n");
 }
 
+/// Word 4 is the length of the ordinary row, word 5 that of the detour row.
+#[test]
+fn a_way_past_a_failed_link() {
+    let both = 1_022 << 16 | 1_022;
+    let kept = "ordinary kept\ndetour kept\n";
+    let right = format!("forward ok detour\nroute 3 1 2 0\n{kept}");
+    for (room, c) in [
+        (both, 0),
+        (both, 2),
+        (both, 3),
+        (5_000 << 16 | 1_022, 65_535),
+    ] {
+        assert_eq!(answers(&case(9, room, [3, 1, c])), right);
+    }
+    let right = format!("forward ok detour\nroute 3 1 3 0\n{kept}");
+    for c in [1, 4, 65_533] {
+        assert_eq!(answers(&case(9, both, [3, 1, c])), right);
+    }
+    let right = format!("forward ok ordinary\nroute 4 0\n{kept}");
+    assert_eq!(answers(&case(9, both, [4, 1, 0])), right);
+    let right = format!("forward ok ordinary\nroute 0\n{kept}");
+    assert_eq!(answers(&case(9, both, [0, 4, 0])), right);
+    for room in [both - 1, both - (1 << 16), 1_022, 1_022 << 16] {
+        let right = format!("forward refused 10 0\n{kept}");
+        assert_eq!(answers(&case(9, room, [4, 1, 0])), right);
+    }
+    for (abc, refused) in [
+        ([5, 5, 0], "15 0"),
+        ([4, 5, 0], "16 0"),
+        ([4, 0, 0], "16 0"),
+        ([4, 4, 0], "17 4"),
+    ] {
+        let right = format!("forward refused {refused}\n{kept}");
+        assert_eq!(answers(&case(9, both, abc)), right);
+    }
+    let right = hex("0009 0005 0000001c 03fe 0001 0000 ffff 0003 0001 0002");
+    assert_eq!(case(9, 1_022 << 16 | 1, [3, 1, 2])[..22], right);
+    let long = case(9, 5_001 << 16 | 1_022, [4, 1, 0]);
+    assert_eq!(answers(&long), "too long\n");
+}
+
 #[test]
 fn the_route_of_a_node() {
     let right = "route ok 3\nnodes 3 1 0\nrest kept\n";
@@ -194,7 +235,7 @@ fn inputs_that_stop_the_probe() {
     for length in 1..sound.len() {
         assert_eq!(after_one(&sound[..length]), "check ok\n");
     }
-    for op in ["0000", "0009", "0064", "006a", "ffff"] {
+    for op in ["0000", "000a", "0064", "006a", "ffff"] {
         let unknown = [hex(op), hex("ffff"), vec![0; 18], sound.clone()].concat();
         assert_eq!(after_one(&unknown), "check ok\nunknown\n");
     }
@@ -220,6 +261,20 @@ fn the_limits_of_a_case() {
     assert!(!head(101, 600, 8_400, 40_000, most).too_long());
     assert!(!head(105, 600, 8_400, 40_000, most).too_long());
     assert!(!head(7, 600, 33_000, 40_000, [8_400, 600, 40_000]).too_long());
+    for rooms in [0, 5_000, 5_000 << 16, 5_000 << 16 | 5_000] {
+        assert!(!head(9, 600, 8_400, rooms, most).too_long());
+    }
+    for rooms in [
+        5_001,
+        40_000,
+        5_001 << 16,
+        1_022 << 16 | 5_001,
+        65_535 << 16,
+    ] {
+        assert!(head(9, 0, 0, rooms, [0; 3]).too_long());
+    }
+    assert!(head(9, 601, 0, 0, [0; 3]).too_long());
+    assert!(head(9, 0, 8_401, 0, [0; 3]).too_long());
     assert!(head(1, 601, 0, 0, [0; 3]).too_long());
     assert!(head(6, 0, 8_401, 0, [0; 3]).too_long());
     assert!(head(7, 0, 33_001, 0, [0; 3]).too_long());

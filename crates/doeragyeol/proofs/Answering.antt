@@ -1,6 +1,6 @@
 -- What each call that answers values says and leaves: refused for the room of its row of values, refused by what it calls, and
 -- taken. Assumes nothing.
-use mathlib.Core.Path.{_≡_, sym, ap, _∙_}
+use mathlib.Core.Path.{_≡_, refl, sym, ap, _∙_}
 use mathlib.Core.List.{List, [], _∷_}
 use Prim.Native.Nat.{ℕ, _<_, _≤_}
 use lib.ListN.{length}
@@ -10,7 +10,7 @@ use Rattle.edition.specs.declared.Verdict.{Verdict}
 use Rattle.edition.specs.declared.Verdict.the-variants.{Taken, Refused}
 use Rattle.edition.specs.declared.Why.the-variants.{NoRoom}
 use Rattle.edition.specs.Refusals.{refused, ifTaken}
-use Rattle.rows.specs.First.{firstly}
+use Rattle.rows.specs.First.{refuseIf, firstly}
 use Rattle.network.specs.Network.{Net}
 use Rattle.sound.specs.declared.Sizes.{Sizes}
 use Rattle.sound.specs.declared.Checked.{Checked}
@@ -30,9 +30,15 @@ use Rattle.archive.specs.Reader.{headRead, Rows, readVerdict, readAnswer, rowsR
 use Rattle.archive.proofs.AcceptedRows.{unlent-refused}
 use Rattle.doeragyeol.specs.Word.{wordOf, answered, told}
 use Rattle.doeragyeol.specs.Calls.{lentRows, checkSaid, sizesRow, mapSaid, wordsRow, openRow, writeSaid, fileRow, lengthRow, readSaid, rowsLeft}
-use Rattle.doeragyeol.specs.Calls.{headerRow}
+use Rattle.forward.specs.declared.Ask.{Ask}
+use Rattle.forward.specs.declared.Way.{Way}
+use Rattle.forward.specs.declared.Applies.{Applies}
+use Rattle.forward.specs.declared.Applies.the-variants.{Ordinary, Detour, Neither}
+use Rattle.forward.specs.Forward.{cutOff}
+use Rattle.forward.specs.Answers.{askVerdict, forwardVerdict, way, applies, ordinaryRow, detourRow}
+use Rattle.doeragyeol.specs.Calls.{headerRow, forwardSaid, ordinaryLeft, detourLeft, wayValues, wayRow}
 use Rattle.doeragyeol.proofs.Telling.{room-lacks, room-there, rooms-one, ends-refused, sound-is, sound-not}
-use Rattle.doeragyeol.proofs.Telling.{map-is, map-not, write-is, write-not, read-is, read-not}
+use Rattle.doeragyeol.proofs.Telling.{map-is, map-not, write-is, write-not, read-is, read-not, ordinary-is, detour-is, neither-is}
 
 -- the word and the row of values, by the verdict
 module _ (v : Verdict) where
@@ -209,3 +215,63 @@ module _ (file links parents entries header : List ℕ) where
               ∙ (ap (λ (k : Header). answered (k .nodes ∷ k .links ∷ k .search .root ∷ k .search .depth ∷ []) header) (is .1)
               ∙ got _ _ _ taken),
         )
+
+-- the forwarder
+module _ (g : Net) (a : Ask) (o d row : List ℕ) where
+  abbrev pub Forward : ℕ → List ℕ → List ℕ → List ℕ → Type 0
+  Forward w o′ d′ row′ =
+      (w ≡ wordOf (forwardSaid g a o d row)) × (o′ ≡ ordinaryLeft g a o d row) × (d′ ≡ detourLeft g a o d row) × (row′ ≡ wayRow g a o d row)
+
+  forward-kept : (w : ℕ) (r : Refusal) → w ≡ wordOf (Refused r) → forwardSaid g a o d row ≡ Refused r → Forward w o d row
+  unfolding ordinaryLeft detourLeft wayRow told
+  forward-kept w r q t = (told-word _ w r t q, kept _ _ _ r t, kept _ _ _ r t, kept _ _ _ r t)
+
+  -- an empty row is refused by 10, in its place
+  unlent :
+      (v : Verdict) (rest : List Verdict)
+      → firstly (v ∷ askVerdict (g .nodes) (g .search .root) a 0 (length d) ∷ rest) ≡ firstly (v ∷ refused NoRoom 0 ∷ [])
+  unfolding firstly askVerdict refuseIf
+  unlent Taken rest = refl
+  unlent (Refused r) rest = refl
+
+  pub forward-short : length row < 3 → (w : ℕ) → w ≡ wordOf (firstly (netVerdict g ∷ refused NoRoom 0 ∷ [])) → Forward w o d row
+  unfolding forwardSaid forwardVerdict
+  forward-short l w q =
+      let no = ends-refused (netVerdict g) in
+      forward-kept w (no .0) (q ∙ ap wordOf (no .1)) (rw (lt-ltb (length row) 3 l) (unlent (netVerdict g) _ ∙ no .1))
+
+  module _ (l : 3 ≤ length row) (it : Applies) (q : it ≡ applies g a o d) (o′ d′ : List ℕ) (e : o′ ≡ ordinaryRow g a o d) (f : d′ ≡ detourRow g a o d) where
+    full : forwardSaid g a o d row ≡ forwardVerdict g a o d
+    unfolding forwardSaid
+    full = rw (le-ltb (length row) 3 l)
+
+    done : forwardVerdict g a o d ≡ Taken → (row′ : List ℕ) → row′ ≡ answered (wayValues it) row → Forward 0 o′ d′ row′
+    unfolding ordinaryLeft detourLeft wayRow told
+    done t row′ p =
+        let taken : forwardSaid g a o d row ≡ Taken = full ∙ t in (
+          done-word _ taken,
+          e ∙ got _ _ _ taken,
+          f ∙ got _ _ _ taken,
+          p ∙ ap (λ (k : Applies). answered (wayValues k) row) q ∙ got _ _ _ taken,
+        )
+
+    pub forward-ordinary : (s : Way) → it ≡ Ordinary s → (row′ : List ℕ) → row′ ≡ answered (0 ∷ s .nodes ∷ s .length ∷ []) row → Forward 0 o′ d′ row′
+    unfolding applies wayValues
+    forward-ordinary s t row′ p =
+        done (ordinary-is (forwardVerdict g a o d) (cutOff g a) (way g a) s (sym q ∙ t)) row′
+        (p ∙ ap (λ (k : Applies). answered (wayValues k) row) (sym t))
+
+    pub forward-detour : (s : Way) → it ≡ Detour s → (row′ : List ℕ) → row′ ≡ answered (1 ∷ s .nodes ∷ s .length ∷ []) row → Forward 0 o′ d′ row′
+    unfolding applies wayValues
+    forward-detour s t row′ p =
+        done (detour-is (forwardVerdict g a o d) (cutOff g a) (way g a) s (sym q ∙ t)) row′
+        (p ∙ ap (λ (k : Applies). answered (wayValues k) row) (sym t))
+
+    pub forward-refused : (r : Refusal) → it ≡ Neither r → (w : ℕ) → w ≡ wordOf (Refused r) → Forward w o′ d′ row
+    unfolding applies ordinaryRow detourRow
+    forward-refused r t w p =
+        let no = neither-is (forwardVerdict g a o d) (cutOff g a) (way g a) r (sym q ∙ t) in
+        let kept = forward-kept w r p (full ∙ no) in
+        let one : ordinaryRow g a o d ≡ o = rw no in
+        let two : detourRow g a o d ≡ d = rw no in
+        (kept .0, e ∙ (one ∙ kept .1), f ∙ (two ∙ kept .2), kept .3)

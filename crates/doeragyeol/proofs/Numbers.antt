@@ -1,6 +1,6 @@
 -- Which of SCOPE's numbers each call from C can give, and no other. Assumes nothing.
-use mathlib.Core.Path.{_≡_, refl}
-use mathlib.Core.List.{List, [], _∷_, _++_}
+use mathlib.Core.Path.{refl}
+use mathlib.Core.List.{List, [], _∷_}
 use Prim.Native.Nat.{ℕ}
 use Rattle.edition.specs.declared.Verdict.{Verdict}
 use Rattle.edition.specs.declared.Why.the-variants.{NoRoom}
@@ -13,11 +13,13 @@ use Rattle.sound.proofs.Numbers.{oneToNine, net-gives}
 use Rattle.table.proofs.Numbers.{oneToTen}
 use Rattle.map.specs.Map.{mapVerdict}
 use Rattle.map.proofs.Numbers.{map-gives}
+use Rattle.forward.specs.declared.Ask.{Ask}
+use Rattle.forward.proofs.Numbers.{ofForwarder, forward-gives}
 use Rattle.archive.specs.Writer.{writeVerdict}
 use Rattle.archive.specs.Reader.{Rows}
 use Rattle.archive.proofs.Numbers.{ofFiles, write-gives, read-gives}
 use Rattle.doeragyeol.specs.Word.{thenRoom}
-use Rattle.doeragyeol.specs.Calls.{checkSaid, mapSaid, writeSaid, readSaid}
+use Rattle.doeragyeol.specs.Calls.{checkSaid, mapSaid, writeSaid, readSaid, forwardSaid}
 
 then-gives : (v : Verdict) (n : ℕ) (row : List ℕ) → Gives oneToTen v → Gives oneToTen (thenRoom v n row)
 unfolding thenRoom numberOf has
@@ -40,3 +42,8 @@ write-said-gives g file row = then-gives (writeVerdict g file) 1 row (write-give
 pub read-said-gives : (file : List ℕ) (rows : Rows) (row : List ℕ) → Gives ofFiles (readSaid file rows row)
 unfolding readSaid
 read-said-gives file rows row = read-gives file _
+
+-- the forwarder: no number but 1 to 10, 15, 16 and 17
+pub forward-said-gives : (g : Net) (a : Ask) (ordinary detour row : List ℕ) → Gives ofForwarder (forwardSaid g a ordinary detour row)
+unfolding forwardSaid
+forward-said-gives g a ordinary detour row = forward-gives g a _ detour

@@ -3,16 +3,18 @@ use Prim.Native.Nat.{ℕ}
 use mathlib.Core.List.{List}
 use Rattle.change.specs.Change.{changeVerdict, Lent, changed}
 use Rattle.doeragyeol.specs.Calls.{lentNet, lentRows, checkSaid, sizesRow, mapSaid, wordsRow, openRow, writeSaid, fileRow, lengthRow}
-use Rattle.doeragyeol.specs.Calls.{readSaid, rowsLeft, headerRow}
+use Rattle.doeragyeol.specs.Calls.{readSaid, rowsLeft, headerRow, forwardSaid, ordinaryLeft, detourLeft, wayRow}
 use Rattle.doeragyeol.specs.Word.{version, wordOf}
 use Rattle.edition.specs.declared.Change.{Change}
+use Rattle.edition.specs.declared.Measure.the-variants.{Sum, Incr, Max}
+use Rattle.forward.specs.declared.Ask.{Ask}
 use Rattle.table.specs.Table.{tableVerdict, tableRow}
 use lib.ListN.{length}
 use Rattle.edition.proofs.Only.{One, one}
 
--- `doeragyeol::doeragyeol_version_3`
-pub one-doeragyeol-version-3 : One (version)
-one-doeragyeol-version-3 = one _
+-- `doeragyeol::doeragyeol_version_4`
+pub one-doeragyeol-version-4 : One (version)
+one-doeragyeol-version-4 = one _
 
 -- `doeragyeol::doeragyeol_check`
 pub one-doeragyeol-check :
@@ -77,3 +79,45 @@ pub one-doeragyeol-read :
     × One (left .entries)
     × One (headerRow file′ rows header′)
 one-doeragyeol-read file links parents entries header = (one _, one _, one _, one _, one _)
+
+-- `doeragyeol::doeragyeol_forward_sum`
+pub one-doeragyeol-forward-sum :
+    (links parents : List ℕ) (root depth start failed : ℕ) (ordinary detour way : List ℕ) →
+    let g = lentNet links parents root depth in
+    let a : Ask = record { start = start; failed = failed; measure = Sum } in
+    let o = ordinary in
+    let d = detour in
+    let way′ = way in
+    One (wordOf (forwardSaid g a o d way′))
+    × One (ordinaryLeft g a o d way′)
+    × One (detourLeft g a o d way′)
+    × One (wayRow g a o d way′)
+one-doeragyeol-forward-sum links parents root depth start failed ordinary detour way = (one _, one _, one _, one _)
+
+-- `doeragyeol::doeragyeol_forward_incr`
+pub one-doeragyeol-forward-incr :
+    (links parents : List ℕ) (root depth start failed : ℕ) (ordinary detour way : List ℕ) →
+    let g = lentNet links parents root depth in
+    let a : Ask = record { start = start; failed = failed; measure = Incr } in
+    let o = ordinary in
+    let d = detour in
+    let way′ = way in
+    One (wordOf (forwardSaid g a o d way′))
+    × One (ordinaryLeft g a o d way′)
+    × One (detourLeft g a o d way′)
+    × One (wayRow g a o d way′)
+one-doeragyeol-forward-incr links parents root depth start failed ordinary detour way = (one _, one _, one _, one _)
+
+-- `doeragyeol::doeragyeol_forward_max`
+pub one-doeragyeol-forward-max :
+    (links parents : List ℕ) (root depth start failed : ℕ) (ordinary detour way : List ℕ) →
+    let g = lentNet links parents root depth in
+    let a : Ask = record { start = start; failed = failed; measure = Max } in
+    let o = ordinary in
+    let d = detour in
+    let way′ = way in
+    One (wordOf (forwardSaid g a o d way′))
+    × One (ordinaryLeft g a o d way′)
+    × One (detourLeft g a o d way′)
+    × One (wayRow g a o d way′)
+one-doeragyeol-forward-max links parents root depth start failed ordinary detour way = (one _, one _, one _, one _)

@@ -16,7 +16,7 @@ use Rattle.edition.specs.declared.Verdict.{Verdict}
 use Rattle.edition.specs.declared.Verdict.the-variants.{Taken, Refused}
 use Rattle.edition.specs.declared.Why.{Why}
 use Rattle.edition.specs.declared.Why.the-variants.{NodeCount, LinkCount, BadRoot, BadDepth, BadEnds, BadMark, BadParent, NoRoute, NotShort, NoRoom}
-use Rattle.edition.specs.declared.Why.the-variants.{LinkMissing, TreeLink, BreaksShort, BadLength, BadCheck, BadBlock, BadEntry}
+use Rattle.edition.specs.declared.Why.the-variants.{LinkMissing, TreeLink, BreaksShort, BadStart, BadFailed, NoSwap, BadLength, BadCheck, BadBlock, BadEntry}
 use Rattle.edition.specs.Limits.{memoryLimits}
 use Rattle.edition.specs.Stored.{editionLimits}
 use Rattle.rows.specs.First.{firstTo, refusedAt, refuseAt, refuseIf, firstly, verdictTo}
@@ -29,13 +29,16 @@ use Rattle.sound.specs.Sound.{recordVerdict, netVerdict}
 use Rattle.table.specs.Table.{tableVerdict}
 use Rattle.map.specs.Map.{mapVerdict}
 use Rattle.change.specs.Change.{changeVerdict}
+use Rattle.forward.specs.declared.Ask.{Ask}
+use Rattle.forward.specs.Answers.{askVerdict, forwardVerdict}
+use Rattle.forward.proofs.Filling.{ask-fits}
 use Rattle.block.specs.Block.{blockVerdict}
 use Rattle.archive.specs.Parts.{blocksFor, blockCount}
 use Rattle.archive.specs.Writer.{writeVerdict}
 use Rattle.archive.specs.Reader.{nodesRead, linksRead, searchRead, netRead, Rows, blockRefusal, headVerdict, restVerdict, readVerdict}
 use Rattle.archive.proofs.Reading.{nodes-read, links-read}
 use Rattle.doeragyeol.specs.Word.{placeMost, wordOf, thenRoom}
-use Rattle.doeragyeol.specs.Calls.{checkSaid, mapSaid, writeSaid, readSaid}
+use Rattle.doeragyeol.specs.Calls.{checkSaid, mapSaid, writeSaid, readSaid, forwardSaid}
 use Rattle.doeragyeol.proofs.Words.{place-back}
 
 -- a verdict that has no place, or one that a word holds
@@ -112,7 +115,7 @@ then-placed : (v : Verdict) (n : ℕ) (row : List ℕ) → Placed v → Placed (
 unfolding thenRoom
 then-placed v n row p = next _ _ p (λ a. next _ _ (at-zero _ NoRoom) (λ b. end))
 
--- the six calls
+-- the calls
 pub check-placed : (g : Net) (row : List ℕ) → Placed (checkSaid g row)
 unfolding checkSaid
 check-placed g row = then-placed (netVerdict g) 2 row (net-placed g)
@@ -188,3 +191,18 @@ module _ (file : List ℕ) (rows : Rows) where
 pub read-placed : (file : List ℕ) (rows : Rows) (row : List ℕ) → Placed (readSaid file rows row)
 unfolding readSaid
 read-placed file rows row = file-placed file _
+
+ask-placed : (g : Net) (a : Ask) (ordinary detour : ℕ) → Placed (askVerdict (g .nodes) (g .search .root) a ordinary detour)
+unfolding askVerdict
+ask-placed g a ordinary detour =
+    next _ _ (at-zero _ NoRoom) (λ p. next _ _ (at-zero _ BadStart) (λ q. next _ _ (at-zero _ BadFailed) (λ r. end)))
+
+-- the forwarder: 17 is at a node, since 16 leaves no other
+pub forward-placed : (g : Net) (a : Ask) (ordinary detour row : List ℕ) → Placed (forwardSaid g a ordinary detour row)
+unfolding forwardSaid forwardVerdict netVerdict
+forward-placed g a ordinary detour row =
+    next _ _ (net-placed g)
+    (λ t. next _ _ (ask-placed g a _ _)
+    (λ f. next _ _
+    (if-placed _ NoSwap (a .failed) (λ q. omega (arith, sized-nodes memoryLimits _ _ _ (head-taken _ _ t), ask-fits _ _ a _ _ f .failed-low)))
+    (λ e. end)))

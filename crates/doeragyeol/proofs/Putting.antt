@@ -17,6 +17,13 @@ two-put [] a b l = absurd (omega arith)
 two-put (x ∷ []) a b l = absurd (omega arith)
 two-put (x ∷ y ∷ rest) a b l = refl
 
+pub three-put : (row : List ℕ) (a b c : ℕ) → 3 ≤ length row → set (set (set row 0 a) 1 b) 2 c ≡ answered (a ∷ b ∷ c ∷ []) row
+unfolding answered
+three-put [] a b c l = absurd (omega arith)
+three-put (x ∷ []) a b c l = absurd (omega arith)
+three-put (x ∷ y ∷ []) a b c l = absurd (omega arith)
+three-put (x ∷ y ∷ z ∷ rest) a b c l = refl
+
 pub four-put : (row : List ℕ) (a b c d : ℕ) → 4 ≤ length row → set (set (set (set row 0 a) 1 b) 2 c) 3 d ≡ answered (a ∷ b ∷ c ∷ d ∷ []) row
 unfolding answered
 four-put [] a b c d l = absurd (omega arith)

@@ -1,6 +1,6 @@
 -- What a verdict is by the answer that was told of it, and by the room of the row that was lent for values. Assumes nothing.
 use mathlib.Core.Path.{_≡_, refl, sym, ap, _∙_}
-use mathlib.Core.Bool.{Bool, true, false}
+use mathlib.Core.Bool.{Bool, true, false, cond}
 use mathlib.Core.List.{List, [], _∷_}
 use Prim.Native.Nat.{ℕ, _<_, _≤_}
 use native.Mathlib.Omega.{arith}
@@ -25,6 +25,9 @@ use Rattle.archive.specs.declared.WriteAnswer.the-variants as write
 use Rattle.archive.specs.declared.ReadAnswer.the-variants as read
 use Rattle.archive.specs.Writer.{writeIf}
 use Rattle.archive.specs.Reader.{readIf}
+use Rattle.forward.specs.declared.Way.{Way}
+use Rattle.forward.specs.declared.Applies.the-variants.{Ordinary, Detour, Neither}
+use Rattle.forward.specs.Answers.{appliesIf}
 use Rattle.doeragyeol.specs.Word.{wordOf, thenRoom}
 
 -- a check with nothing behind it
@@ -101,3 +104,17 @@ read-is (Refused r) t s e = let z : _≡_ {A = ℕ} 0 1 = cc in absurd (omega ar
 pub read-not : (v : Verdict) (t : Header) (r : Refusal) → readIf v t ≡ read.Not r → v ≡ Refused r
 read-not Taken t r e = let z : _≡_ {A = ℕ} 0 1 = cc in absurd (omega arith)
 read-not (Refused q) t r e = cc
+
+-- the forwarder
+pub ordinary-is : (v : Verdict) (b : Bool) (t s : Way) → appliesIf v (cond b (Detour t) (Ordinary t)) ≡ Ordinary s → v ≡ Taken
+ordinary-is Taken b t s e = refl
+ordinary-is (Refused r) b t s e = let z : _≡_ {A = ℕ} 0 1 = cc in absurd (omega arith)
+
+pub detour-is : (v : Verdict) (b : Bool) (t s : Way) → appliesIf v (cond b (Detour t) (Ordinary t)) ≡ Detour s → v ≡ Taken
+detour-is Taken b t s e = refl
+detour-is (Refused r) b t s e = let z : _≡_ {A = ℕ} 0 1 = cc in absurd (omega arith)
+
+pub neither-is : (v : Verdict) (b : Bool) (t : Way) (r : Refusal) → appliesIf v (cond b (Detour t) (Ordinary t)) ≡ Neither r → v ≡ Refused r
+neither-is Taken true t r e = let z : _≡_ {A = ℕ} 0 1 = cc in absurd (omega arith)
+neither-is Taken false t r e = let z : _≡_ {A = ℕ} 0 1 = cc in absurd (omega arith)
+neither-is (Refused q) b t r e = cc

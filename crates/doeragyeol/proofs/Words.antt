@@ -1,36 +1,13 @@
 -- A word says what the verdict was: 0 exactly where it was taken, and else the refusal's number and place. Assumes nothing.
 use mathlib.Core.Path.{_≡_, refl}
-use Prim.Native.Nat.{ℕ, _+_, _≤_, _/_, _%_}
+use Prim.Native.Nat.{_+_, _≤_, _/_, _%_}
 use native.Mathlib.Omega.{arith}
-use Rattle.edition.specs.declared.Why.{Why}
-use Rattle.edition.specs.declared.Why.the-variants.{NodeCount, LinkCount, BadRoot, BadDepth, BadEnds, BadMark, BadParent, NoRoute, NotShort, NoRoom}
-use Rattle.edition.specs.declared.Why.the-variants.{LinkMissing, TreeLink, BreaksShort, BadLength, BadCheck, BadBlock, BadEntry}
 use Rattle.edition.specs.declared.Refusal.{Refusal}
 use Rattle.edition.specs.declared.Verdict.{Verdict}
 use Rattle.edition.specs.declared.Verdict.the-variants.{Taken, Refused}
 use Rattle.edition.specs.Refusals.{numberOf}
+use Rattle.edition.proofs.Numbered.{numbered}
 use Rattle.doeragyeol.specs.Word.{placeMost, wordOf}
-
--- no refusal has number 0
-numbered : (why : Why) → 1 ≤ numberOf why
-unfolding numberOf
-numbered NodeCount = omega arith
-numbered LinkCount = omega arith
-numbered BadRoot = omega arith
-numbered BadDepth = omega arith
-numbered BadEnds = omega arith
-numbered BadMark = omega arith
-numbered BadParent = omega arith
-numbered NoRoute = omega arith
-numbered NotShort = omega arith
-numbered NoRoom = omega arith
-numbered LinkMissing = omega arith
-numbered TreeLink = omega arith
-numbered BreaksShort = omega arith
-numbered BadLength = omega arith
-numbered BadCheck = omega arith
-numbered BadBlock = omega arith
-numbered BadEntry = omega arith
 
 -- 0 exactly where it was taken
 pub taken-zero : wordOf Taken ≡ 0

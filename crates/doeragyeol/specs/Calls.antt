@@ -10,6 +10,10 @@ use Rattle.edition.specs.Refusals.{ifTaken}
 use Rattle.network.specs.Network.{Net, netOf}
 use Rattle.sound.specs.Sound.{netVerdict}
 use Rattle.map.specs.Map.{mapVerdict, mapRow, countUnprotected, lowest}
+use Rattle.forward.specs.declared.Ask.{Ask}
+use Rattle.forward.specs.declared.Applies.{Applies}
+use Rattle.forward.specs.declared.Applies.the-variants.{Ordinary, Detour, Neither}
+use Rattle.forward.specs.Answers.{forwardVerdict, applies, ordinaryRow, detourRow}
 use Rattle.archive.specs.Writer.{fileLength, writeVerdict, writtenRow}
 use Rattle.archive.specs.Reader.{nodesRead, linksRead, searchRead, Rows, readVerdict, rowsRead}
 use Rattle.doeragyeol.specs.Word.{thenRoom, told}
@@ -68,3 +72,25 @@ unfoldable pub headerRow : List ℕ → Rows → List ℕ → List ℕ
 headerRow file rows row =
     let s = searchRead file in
     told (readSaid file rows row) (nodesRead file ∷ linksRead file ∷ s .root ∷ s .depth ∷ []) row
+
+-- The forwarder: 1 to 10, 15, 16 and 17. A row too short for the three values is 10 in its place, as if the ordinary row were empty.
+unfoldable pub forwardSaid : Net → Ask → List ℕ → List ℕ → List ℕ → Verdict
+forwardSaid g a ordinary detour row = forwardVerdict g a (cond (ltb (length row) 3) [] ordinary) detour
+
+-- What the ordinary row then holds.
+unfoldable pub ordinaryLeft : Net → Ask → List ℕ → List ℕ → List ℕ → List ℕ
+ordinaryLeft g a ordinary detour row = ifTaken (forwardSaid g a ordinary detour row) (ordinaryRow g a ordinary detour) ordinary
+
+-- What the detour row then holds.
+unfoldable pub detourLeft : Net → Ask → List ℕ → List ℕ → List ℕ → List ℕ
+detourLeft g a ordinary detour row = ifTaken (forwardSaid g a ordinary detour row) (detourRow g a ordinary detour) detour
+
+-- The three values: 0 where the ordinary row applies and 1 where the detour row does, how many nodes the list has, and how long it is.
+unfoldable pub wayValues : Applies → List ℕ
+wayValues (Ordinary w) = 0 ∷ w .nodes ∷ w .length ∷ []
+wayValues (Detour w) = 1 ∷ w .nodes ∷ w .length ∷ []
+wayValues (Neither r) = []
+
+-- What the row lent for its three values then holds.
+unfoldable pub wayRow : Net → Ask → List ℕ → List ℕ → List ℕ → List ℕ
+wayRow g a ordinary detour row = told (forwardSaid g a ordinary detour row) (wayValues (applies g a ordinary detour)) row

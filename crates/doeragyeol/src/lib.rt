@@ -1,4 +1,4 @@
-// The library for C: six functions over numbers and lent rows, each of which answers one word, 0 or the refusal; and the
+// The library for C: nine functions over numbers and lent rows, each of which answers one word, 0 or the refusal; and the
 // version.
 ghost use mathlib.Core.Path.{_≡_};
 ghost use mathlib.Core.List.{[], _∷_};
@@ -13,22 +13,27 @@ ghost use Rattle.sound.specs.Sound.{netVerdict};
 ghost use Rattle.table.specs.Table.{tableVerdict, tableRow};
 ghost use Rattle.change.specs.Change.{changeVerdict, Lent, changed};
 ghost use Rattle.edition.specs.declared.Change.{Change};
+ghost use Rattle.edition.specs.declared.Measure.the-variants.{Sum, Incr, Max};
+ghost use Rattle.forward.specs.declared.Ask.{Ask};
 ghost use Rattle.doeragyeol.specs.Word.{version, placeMost, wordOf, answered};
 ghost use Rattle.doeragyeol.specs.Calls.{lentNet, lentRows, checkSaid, sizesRow, mapSaid, wordsRow, openRow, writeSaid, fileRow, lengthRow};
-ghost use Rattle.doeragyeol.specs.Calls.{readSaid, rowsLeft, headerRow};
+ghost use Rattle.doeragyeol.specs.Calls.{readSaid, rowsLeft, headerRow, forwardSaid, ordinaryLeft, detourLeft, wayRow};
 use archive::Header;
 use archive::ReadAnswer;
 use archive::WriteAnswer;
 use edition::Change;
+use edition::Measure;
 use edition::Refusal;
 use edition::Search;
 use edition::Verdict;
 use edition::Why;
+use forward::Applies;
+use forward::Ask;
 use map::MapAnswer;
 use sound::Checked;
 
 // The version of the interface: what the header declares. A landing that changes that raises it, here and in the name below.
-const VERSION: u32 = 3;
+const VERSION: u32 = 4;
 
 // The word of a call that is not refused.
 const DONE: u32 = 0;
@@ -44,6 +49,13 @@ const TOLD: usize = 2;
 const SIZE: usize = 1;
 
 const HEADER: usize = 4;
+
+const WAY: usize = 3;
+
+// Which row of the forwarder applies.
+const ORDINARY: u64 = 0;
+
+const DETOUR: u64 = 1;
 
 // A place, as far as a word holds it.
 fn place_part(place: usize) -> u32
@@ -114,6 +126,16 @@ fn put_two(row: &mut [u64], a: u64, b: u64)
     row[1] = b;
 }
 
+// Puts three values at the beginning of a row.
+fn put_three(row: &mut [u64], a: u64, b: u64, c: u64)
+    requires { ⌜ 3 ≤ length (now row) ⌝ }
+    ensures { λ _. ⌜ now (row .exit) ≡ answered (a ∷ b ∷ c ∷ []) (now (row .entry)) ⌝ }
+{
+    row[0] = a;
+    row[1] = b;
+    row[2] = c;
+}
+
 // Puts what a header says at the beginning of a row.
 fn put_header(row: &mut [u64], head: Header)
     requires { ⌜ 4 ≤ length (now row) ⌝ }
@@ -129,7 +151,7 @@ fn put_header(row: &mut [u64], head: Header)
 
 // The version of the interface. The name ends with it, so that a caller made for another version does not link.
 #[no_mangle]
-pub extern "C" fn doeragyeol_version_3() -> u32
+pub extern "C" fn doeragyeol_version_4() -> u32
     ensures { λ r. ⌜ r ≡ version ⌝ }
 {
     VERSION
@@ -294,4 +316,161 @@ pub extern "C" fn doeragyeol_read(
         }
         ReadAnswer::Not(why) => refusal_word(why),
     }
+}
+
+// The list for what is asked, into the row that applies, and the word of that.
+fn forward_word(
+    links: &[u16],
+    parents: &[u16],
+    search: Search,
+    ask: Ask,
+    ordinary: &mut [u16],
+    detour: &mut [u16],
+    way: &mut [u64],
+) -> u32
+    ensures { λ r.
+        let g = netOf (now (links .entry)) (now (parents .entry)) search in
+        let o = now (ordinary .entry) in
+        let d = now (detour .entry) in
+        let way′ = now (way .entry) in
+        ⌜ (r ≡ wordOf (forwardSaid g ask o d way′))
+        × (now (ordinary .exit) ≡ ordinaryLeft g ask o d way′)
+        × (now (detour .exit) ≡ detourLeft g ask o d way′)
+        × (now (way .exit) ≡ wayRow g ask o d way′) ⌝ }
+{
+    if way.len() < WAY {
+        return short_word(links, parents, search);
+    }
+    match forward::fill(links, parents, search, ask, ordinary, detour) {
+        Applies::Ordinary(it) => {
+            put_three(way, ORDINARY, it.nodes as u64, it.length);
+            DONE
+        }
+        Applies::Detour(it) => {
+            put_three(way, DETOUR, it.nodes as u64, it.length);
+            DONE
+        }
+        Applies::Neither(why) => refusal_word(why),
+    }
+}
+
+// The list from a start to the root while the tree link of a node is down, into the row that applies, by the swap link under sum.
+// `way` gets which row that is, how many nodes the list has, and how long it is.
+#[no_mangle]
+pub extern "C" fn doeragyeol_forward_sum(
+    links: &[u16],
+    parents: &[u16],
+    root: u16,
+    depth: u16,
+    start: u16,
+    failed: u16,
+    ordinary: &mut [u16],
+    detour: &mut [u16],
+    way: &mut [u64],
+) -> u32
+    ensures { λ r.
+        let g = lentNet (now (links .entry)) (now (parents .entry)) root depth in
+        let a : Ask = record { start = start; failed = failed; measure = Sum } in
+        let o = now (ordinary .entry) in
+        let d = now (detour .entry) in
+        let way′ = now (way .entry) in
+        ⌜ (r ≡ wordOf (forwardSaid g a o d way′))
+        × (now (ordinary .exit) ≡ ordinaryLeft g a o d way′)
+        × (now (detour .exit) ≡ detourLeft g a o d way′)
+        × (now (way .exit) ≡ wayRow g a o d way′) ⌝ }
+{
+    let ask = Ask {
+        start,
+        failed,
+        measure: Measure::Sum,
+    };
+    forward_word(
+        links,
+        parents,
+        Search { root, depth },
+        ask,
+        ordinary,
+        detour,
+        way,
+    )
+}
+
+// The same by the swap link under incr.
+#[no_mangle]
+pub extern "C" fn doeragyeol_forward_incr(
+    links: &[u16],
+    parents: &[u16],
+    root: u16,
+    depth: u16,
+    start: u16,
+    failed: u16,
+    ordinary: &mut [u16],
+    detour: &mut [u16],
+    way: &mut [u64],
+) -> u32
+    ensures { λ r.
+        let g = lentNet (now (links .entry)) (now (parents .entry)) root depth in
+        let a : Ask = record { start = start; failed = failed; measure = Incr } in
+        let o = now (ordinary .entry) in
+        let d = now (detour .entry) in
+        let way′ = now (way .entry) in
+        ⌜ (r ≡ wordOf (forwardSaid g a o d way′))
+        × (now (ordinary .exit) ≡ ordinaryLeft g a o d way′)
+        × (now (detour .exit) ≡ detourLeft g a o d way′)
+        × (now (way .exit) ≡ wayRow g a o d way′) ⌝ }
+{
+    let ask = Ask {
+        start,
+        failed,
+        measure: Measure::Incr,
+    };
+    forward_word(
+        links,
+        parents,
+        Search { root, depth },
+        ask,
+        ordinary,
+        detour,
+        way,
+    )
+}
+
+// The same by the swap link under max.
+#[no_mangle]
+pub extern "C" fn doeragyeol_forward_max(
+    links: &[u16],
+    parents: &[u16],
+    root: u16,
+    depth: u16,
+    start: u16,
+    failed: u16,
+    ordinary: &mut [u16],
+    detour: &mut [u16],
+    way: &mut [u64],
+) -> u32
+    ensures { λ r.
+        let g = lentNet (now (links .entry)) (now (parents .entry)) root depth in
+        let a : Ask = record { start = start; failed = failed; measure = Max } in
+        let o = now (ordinary .entry) in
+        let d = now (detour .entry) in
+        let way′ = now (way .entry) in
+        ⌜ (r ≡ wordOf (forwardSaid g a o d way′))
+        × (now (ordinary .exit) ≡ ordinaryLeft g a o d way′)
+        × (now (detour .exit) ≡ detourLeft g a o d way′)
+        × (now (way .exit) ≡ wayRow g a o d way′) ⌝ }
+{
+    let ask = Ask {
+        start,
+        failed,
+        measure: Measure::Max,
+    };
+    forward_word(
+        links,
+        parents,
+        Search { root, depth },
+        ask,
+        ordinary,
+        detour,
+        way,
+    )
 }

@@ -1,3 +1,4 @@
 pub mod Within
 pub mod Only
+pub mod Numbered
 pub mod Outcomes

@@ -67,6 +67,10 @@ linkRoom = linkLimit * linkWidth
 abbrev pub entryRoom : ℕ
 entryRoom = nodeLimit * entryWidth
 
+-- Numbers in a row that holds any list of a forwarder: 1,022, twice the nodes less two.
+abbrev pub routeRoom : ℕ
+routeRoom = 2 * nodeLimit - 2
+
 -- The map has eight words.
 abbrev pub mapWords : ℕ
 mapWords = 8

@@ -3,7 +3,8 @@ use mathlib.Core.List.{List, [], _∷_}
 use Prim.Native.Nat.{ℕ}
 use Rattle.edition.specs.declared.Why.{Why}
 use Rattle.edition.specs.declared.Why.the-variants.{NodeCount, LinkCount, BadRoot, BadDepth, BadEnds, BadMark, BadParent, NoRoute, NotShort}
-use Rattle.edition.specs.declared.Why.the-variants.{NoRoom, LinkMissing, TreeLink, BreaksShort, BadLength, BadCheck, BadBlock, BadEntry}
+use Rattle.edition.specs.declared.Why.the-variants.{NoRoom, LinkMissing, TreeLink, BreaksShort, BadStart, BadFailed, NoSwap}
+use Rattle.edition.specs.declared.Why.the-variants.{BadLength, BadCheck, BadBlock, BadEntry}
 use Rattle.edition.specs.declared.Verdict.{Verdict}
 use Rattle.edition.specs.declared.Verdict.the-variants.{Taken, Refused}
 
@@ -22,6 +23,9 @@ numberOf NoRoom = 10
 numberOf LinkMissing = 11
 numberOf TreeLink = 12
 numberOf BreaksShort = 13
+numberOf BadStart = 15
+numberOf BadFailed = 16
+numberOf NoSwap = 17
 numberOf BadLength = 20
 numberOf BadCheck = 21
 numberOf BadBlock = 22

@@ -20,6 +20,9 @@ pub enum Why {
     LinkMissing,
     TreeLink,
     BreaksShort,
+    BadStart,
+    BadFailed,
+    NoSwap,
     BadLength,
     BadCheck,
     BadBlock,
@@ -240,6 +243,9 @@ impl Memory {
 
     pub const ENTRY_ROW: usize = Memory::NODES * Memory::ENTRY;
 
+    // Numbers of a row that holds any list of a forwarder: twice the nodes less two.
+    pub const ROUTE_ROW: usize = 2 * Memory::NODES - 2;
+
     // The unprotected map: words, and bits a word.
     pub const WORDS: usize = 8;
 
@@ -285,6 +291,9 @@ pub fn number(why: Why) -> u16
         Why::LinkMissing => 11,
         Why::TreeLink => 12,
         Why::BreaksShort => 13,
+        Why::BadStart => 15,
+        Why::BadFailed => 16,
+        Why::NoSwap => 17,
         Why::BadLength => 20,
         Why::BadCheck => 21,
         Why::BadBlock => 22,

@@ -1,4 +1,4 @@
--- P1 to P12 of the Harbour case hold: one theorem that the checker computes. Assumes nothing.
+-- P1 to P12 of the Harbour case and the lists of the forwarder hold: one theorem that the checker computes. Assumes nothing.
 use mathlib.Core.Path.{_≡_, refl}
 use mathlib.Core.Bool.{true}
 use mathlib.Core.List.{List, [], _∷_}
@@ -6,7 +6,7 @@ use Rattle.rows.proofs.Tests.{and-left, and-right}
 use Rattle.rows.proofs.Listed.{same-equal}
 use Rattle.harbour.specs.Harbour.{Case, _gives_, links, parents, harbour, alone, rootEntry, bridge, one, two, three, right, nine}
 use Rattle.harbour.specs.Harbour.{linksTurned, turned, oneTurned, threeTurned}
-use Rattle.harbour.specs.Harbour.{linksSeven, linksNine, twoSeven, oneNine, twoNine, room, answer, cases, holds}
+use Rattle.harbour.specs.Harbour.{linksSeven, linksNine, twoSeven, oneNine, twoNine, room, listRoom, listSaid, answer, cases, holds}
 use Rattle.edition.specs.Refusals.{numberOf, said}
 use Rattle.rows.specs.Count.{sumTo, maxTo, someTo, rowsTo, onlyIf, rowWith}
 use Rattle.rows.specs.First.{orHere, firstTo, foundOr, refusedAt, refuseAt, refuseIf, firstly}
@@ -21,6 +21,8 @@ use Rattle.rows.specs.Records.{recordIn, withRecord, pastRecords}
 use Rattle.entries.specs.Row.{entryRow, standing, pastEntries}
 use Rattle.table.specs.Table.{table, tableVerdict, tableRow, isAsked, freshAt, freshRow}
 use Rattle.map.specs.Map.{unprotected, word, mapOf, countUnprotected, lowest, mapVerdict, mapRow}
+use Rattle.forward.specs.Forward.{cutOff, swapLink, lowerEnd, upperEnd, around, stepsUp, stepsAround, detour, listed, steps, lengthOf}
+use Rattle.forward.specs.Answers.{askVerdict, stranded, forwardVerdict, way, applies, rowOf, ordinaryRow, detourRow, usedPart, handed}
 use Rattle.change.specs.Change.{breaks, changeVerdict, setLink, mendedAt, mended, changed}
 
 pub harbour-cases : holds cases ≡ true
@@ -32,7 +34,8 @@ unfolding numberOf entryRow sumTo maxTo someTo rowsTo onlyIf rowWith orHere firs
     best crossed hasCandidate state priced swapOf entry table tableVerdict tableRow isAsked freshAt
     freshRow unprotected word mapOf countUnprotected lowest mapVerdict mapRow isParent breaks changeVerdict setLink mendedAt mended
     changed links parents harbour linksTurned turned oneTurned threeTurned alone rootEntry bridge one two three right nine linksSeven linksNine twoSeven
-    oneNine twoNine said room answer cases holds
+    oneNine twoNine cutOff swapLink lowerEnd upperEnd around stepsUp stepsAround detour listed steps lengthOf askVerdict stranded forwardVerdict way
+    applies rowOf ordinaryRow detourRow usedPart handed listRoom listSaid said room answer cases holds
 harbour-cases = refl
 
 -- each case as an equation, to be cited by what the promises say

@@ -1,3 +1,4 @@
 pub mod Cases
 pub mod Accepted
 pub mod Numbers
+pub mod Series

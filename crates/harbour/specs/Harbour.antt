@@ -1,19 +1,26 @@
--- The Harbour case of SCOPE: what is asked in P1 to P12, and the numbers that it gives. Assumes nothing.
-use mathlib.Core.Bool.{Bool, true, _&&_}
+-- The Harbour case of SCOPE: what is asked in P1 to P12 and of the forwarder, and the numbers that it gives. Assumes nothing.
+use mathlib.Core.Bool.{Bool, true, cond, _&&_}
 use mathlib.Core.List.{List, [], _∷_, _++_}
 use Prim.Native.Nat.{ℕ}
 use lib.ListN.{replicate}
 use Rattle.entries.specs.Row.{entryRow}
 use Rattle.edition.specs.declared.Change.{Change}
-use Rattle.edition.specs.Limits.{noLink, noNode, wholeSearch, mapWords}
-use Rattle.edition.specs.Refusals.{said}
+use Rattle.edition.specs.declared.Measure.{Measure}
+use Rattle.edition.specs.declared.Measure.the-variants.{Sum, Incr, Max}
+use Rattle.edition.specs.Limits.{noLink, noNode, wholeSearch, mapWords, routeRoom}
+use Rattle.edition.specs.Refusals.{said, ifTaken}
 use Rattle.rows.specs.Count.{rowsTo}
 use Rattle.rows.specs.Lists.{same}
 use Rattle.network.specs.Network.{Net, netOf}
+use Rattle.tree.specs.Tree.{treeOf, meet, apart}
+use Rattle.swap.specs.Swap.{newDist}
 use Rattle.swap.specs.Entry.{entry}
 use Rattle.table.specs.Table.{tableVerdict, tableRow}
 use Rattle.map.specs.Map.{mapVerdict, mapRow, countUnprotected, lowest}
 use Rattle.change.specs.Change.{changeVerdict, changed}
+use Rattle.forward.specs.declared.Ask.{Ask as Question}
+use Rattle.forward.specs.Forward.{cutOff, swapLink, lowerEnd}
+use Rattle.forward.specs.Answers.{forwardVerdict, way, handed}
 
 -- Links 0 to 6: two ends, length, service mark.
 unfoldable pub links : List ℕ
@@ -133,10 +140,24 @@ pub data Ask : Type 0 where
   mapOf : Net → Ask
   -- the verdict on a change at the whole search (link, mark, length) of a table, and the rows of links and entries after it
   change : ℕ → ℕ → ℕ → List ℕ → Ask
+  -- what the forwarder says at a depth, to a start while the tree link of a node is down, by a measure: the verdict, 0 for the ordinary
+  -- row or 1 for the detour row, the length, and the nodes handed back
+  listOf : ℕ → ℕ → ℕ → Measure → Ask
+  -- at the whole search, N of such a start, where the routes of it and of the swap link's lower end first meet, and the tree length
+  -- from the failed node to there
+  partsOf : ℕ → ℕ → Measure → Ask
 
 -- A row of nines for the entries of a network.
 unfoldable pub room : Net → List ℕ
 room g = rowsTo (λ x. nine) (g .nodes)
+
+-- A row of nines for a list of the forwarder.
+unfoldable pub listRoom : List ℕ
+listRoom = replicate routeRoom 9
+
+-- What the forwarder says of a list that it hands back; nothing on a refusal.
+unfoldable pub listSaid : Net → Question → List ℕ
+listSaid g a = ifTaken (forwardVerdict g a listRoom listRoom) (cond (cutOff g a) 1 0 ∷ way g a .length ∷ []) []
 
 -- What the definitions answer.
 unfoldable pub answer : Ask → List ℕ
@@ -147,13 +168,22 @@ answer (change e s w entries) =
     let c : Change = record { link = e; mark = s; length = w } in
     let after = changed parents (harbour wholeSearch .search) c (record { links = links; entries = entries }) in
     said (changeVerdict (harbour wholeSearch) entries c) ++ after .links ++ after .entries
+answer (listOf depth u x s) =
+    let g = harbour depth in
+    let a : Question = record { start = u; failed = x; measure = s } in
+    said (forwardVerdict g a listRoom listRoom) ++ listSaid g a ++ handed g a listRoom listRoom
+answer (partsOf u x s) =
+    let g = harbour wholeSearch in
+    let a : Question = record { start = u; failed = x; measure = s } in
+    let c = meet (treeOf g) u (lowerEnd g a) in
+    newDist (treeOf g) x (g .link (swapLink g a)) u ∷ c ∷ apart (treeOf g) x c ∷ []
 
--- A question and the numbers that SCOPE gives.
+-- A question and its numbers: SCOPE's, or worked out by hand.
 pub data Case : Type 0 where
   _gives_ : Ask → List ℕ → Case
 
 infix 5 _gives_
--- P1 to P12, and where the marks differ between measures.
+-- P1 to P12, where the marks differ between measures, and lists of the forwarder.
 unfoldable pub cases : List Case
 cases =
     -- P1 to P4
@@ -184,7 +214,25 @@ cases =
     -- P12
     (change 7 1 2 right gives (11 ∷ 0 ∷ links ++ right)) ∷
     -- request 2026-01
-    (tableOf turned gives (0 ∷ 0 ∷ rootEntry ++ oneTurned ++ two ++ threeTurned ++ bridge)) ∷ []
+    (tableOf turned gives (0 ∷ 0 ∷ rootEntry ++ oneTurned ++ two ++ threeTurned ++ bridge)) ∷
+    -- request 2026-02: node 1's link is down; by sum the swap link is 3, from 2 to 0, and by incr 4, from 3 to 0
+    (listOf wholeSearch 3 1 Sum gives (0 ∷ 0 ∷ 1 ∷ 10 ∷ 3 ∷ 1 ∷ 2 ∷ 0 ∷ [])) ∷
+    (partsOf 3 1 Sum gives (10 ∷ 1 ∷ 0 ∷ [])) ∷
+    (listOf wholeSearch 2 1 Sum gives (0 ∷ 0 ∷ 1 ∷ 12 ∷ 2 ∷ 1 ∷ 2 ∷ 0 ∷ [])) ∷
+    (partsOf 2 1 Sum gives (6 ∷ 2 ∷ 3 ∷ [])) ∷
+    (listOf wholeSearch 1 1 Sum gives (0 ∷ 0 ∷ 1 ∷ 9 ∷ 1 ∷ 2 ∷ 0 ∷ [])) ∷
+    (listOf wholeSearch 4 1 Sum gives (0 ∷ 0 ∷ 0 ∷ 9 ∷ 4 ∷ 0 ∷ [])) ∷
+    (listOf wholeSearch 3 1 Incr gives (0 ∷ 0 ∷ 1 ∷ 9 ∷ 3 ∷ 1 ∷ 3 ∷ 0 ∷ [])) ∷
+    (partsOf 3 1 Incr gives (7 ∷ 3 ∷ 1 ∷ [])) ∷
+    -- node 4 is a bridge, and at depth 0 node 1 has none within the depth: 17 where the start is cut off, its route where it is not
+    (listOf wholeSearch 4 4 Max gives (17 ∷ 4 ∷ [])) ∷
+    (listOf wholeSearch 3 4 Max gives (0 ∷ 0 ∷ 0 ∷ 3 ∷ 3 ∷ 1 ∷ 0 ∷ [])) ∷
+    (listOf 0 2 1 Sum gives (17 ∷ 1 ∷ [])) ∷
+    (listOf 0 4 1 Sum gives (0 ∷ 0 ∷ 0 ∷ 9 ∷ 4 ∷ 0 ∷ [])) ∷
+    -- 15 and 16
+    (listOf wholeSearch 5 0 Sum gives (15 ∷ 0 ∷ [])) ∷
+    (listOf wholeSearch 3 0 Sum gives (16 ∷ 0 ∷ [])) ∷
+    (listOf wholeSearch 3 5 Sum gives (16 ∷ 0 ∷ [])) ∷ []
 
 -- Does every case hold?
 unfoldable pub holds : List Case → Bool

@@ -7,11 +7,14 @@ use archive::WriteAnswer;
 use edition::Change;
 use edition::Edition;
 use edition::Entry;
+use edition::Measure;
 use edition::Memory;
 use edition::Refusal;
 use edition::Search;
 use edition::Swap;
 use edition::Verdict;
+use forward::Applies;
+use forward::Ask;
 use map::MapAnswer;
 use network::Link;
 use sound::Checked;
@@ -482,4 +485,66 @@ pub extern "C" fn painted_unprotected_map(
         MapAnswer::Is(told) => both(told.count as u64, told.lowest as u64),
         MapAnswer::Not(refusal) => refused(refusal),
     }
+}
+
+#[no_mangle]
+pub extern "C" fn painted_forward_fill(
+    links: &[u16],
+    parents: &[u16],
+    root: u16,
+    depth: u16,
+    start: u16,
+    failed: u16,
+    ordinary: &mut [u16],
+    detour: &mut [u16],
+) -> u64 {
+    let ask = Ask {
+        start,
+        failed,
+        measure: Measure::Max,
+    };
+    match forward::fill(
+        links,
+        parents,
+        Search { root, depth },
+        ask,
+        ordinary,
+        detour,
+    ) {
+        Applies::Ordinary(way) => both(way.nodes as u64, way.length),
+        Applies::Detour(way) => both(way.nodes as u64, way.length),
+        Applies::Neither(refusal) => refused(refusal),
+    }
+}
+
+#[no_mangle]
+pub extern "C" fn painted_forward(
+    links: &[u16],
+    parents: &[u16],
+    root: u16,
+    depth: u16,
+    start: u16,
+    failed: u16,
+    ordinary: &mut [u16],
+    detour: &mut [u16],
+) -> u64 {
+    let ask = Ask {
+        start,
+        failed,
+        measure: Measure::Max,
+    };
+    let mut number = 0;
+    let mut place = 0;
+    let part = forward::forward(
+        links,
+        parents,
+        Search { root, depth },
+        ask,
+        ordinary,
+        detour,
+        &mut number,
+        &mut place,
+    );
+    let nodes = part.len() as u64;
+    both(nodes, both(number as u64, place as u64))
 }

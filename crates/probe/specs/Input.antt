@@ -12,7 +12,7 @@ use Rattle.probe.specs.declared.input.Heading.the-variants.{Is, End}
 unfoldable pub longIn : List ℕ → ℕ → ℕ
 longIn raw i = wordIn raw i * 65536 + wordIn raw (i + 1)
 
--- The head that bytes are.
+-- The head that bytes are. Words 4 and 5 are the room, and each for itself the length of a row.
 unfoldable pub headIn : List ℕ → Head
 headIn raw =
     record {
@@ -20,6 +20,8 @@ headIn raw =
       parents = wordIn raw 1;
       rest = longIn raw 2;
       room = longIn raw 4;
+      ordinary = wordIn raw 4;
+      detour = wordIn raw 5;
       search = record { root = wordIn raw 6; depth = wordIn raw 7 };
       a = wordIn raw 8;
       b = wordIn raw 9;

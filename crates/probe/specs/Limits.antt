@@ -2,12 +2,12 @@
 use mathlib.Core.Bool.{Bool, cond, not, _&&_, _||_}
 use Prim.Native.Nat.{ℕ}
 use lib.Dec.{eqb, ltb, leb}
-use Rattle.probe_rows.specs.Limits.{mostParents, mostLinks, mostBytes, mostRoom}
+use Rattle.probe_rows.specs.Limits.{mostParents, mostLinks, mostBytes, mostRoom, mostRoute}
 use Rattle.probe.specs.declared.input.Head.{Head}
 
 -- The ops of the probe's table are 1 to this one.
 abbrev pub lastOp : ℕ
-lastOp = 8
+lastOp = 9
 
 -- The project's own ops are these and those between.
 abbrev pub firstOwn : ℕ
@@ -22,6 +22,10 @@ readOp = 7
 
 abbrev pub payloadOp : ℕ
 payloadOp = 8
+
+-- The op that lends two rows, and no room.
+abbrev pub forwardOp : ℕ
+forwardOp = 9
 
 -- Is the op in the probe's table, or one of the project's own?
 unfoldable pub isOp : ℕ → Bool
@@ -39,8 +43,16 @@ mostRest op = cond (takesBytes op) mostBytes mostLinks
 unfoldable pub overRows : Head → Bool
 overRows head = ltb mostLinks (head .a) || (ltb mostParents (head .b) || ltb mostRoom (head .c))
 
+-- Is one of the two rows that op 9 lends over its limit?
+unfoldable pub overRoutes : Head → Bool
+overRoutes head = ltb mostRoute (head .ordinary) || ltb mostRoute (head .detour)
+
+-- Is what words 4 and 5 lend over its limit: the two rows of op 9, the room of any other?
+unfoldable pub overRoom : Head → Bool
+overRoom head = cond (eqb (head .op) forwardOp) (overRoutes head) (ltb mostRoom (head .room))
+
 -- Is the head over a limit?
 unfoldable pub isOver : Head → Bool
 isOver head =
     ltb mostParents (head .parents)
-    || (ltb mostRoom (head .room) || (ltb (mostRest (head .op)) (head .rest) || (eqb (head .op) readOp && overRows head)))
+    || (overRoom head || (ltb (mostRest (head .op)) (head .rest) || (eqb (head .op) readOp && overRows head)))

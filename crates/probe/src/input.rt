@@ -3,7 +3,7 @@ ghost use mathlib.Core.Path.{_≡_};
 ghost use Prim.Native.Nat.{_+_, _*_};
 ghost use lib.ListN.{drop};
 ghost use Rattle.probe.specs.Input.{headIn, HeadRead, rowRead};
-ghost use Rattle.probe.specs.Limits.{mostRest, overRows, isOver};
+ghost use Rattle.probe.specs.Limits.{mostRest, overRoutes, overRoom, overRows, isOver};
 use crate::limits::HEAD;
 use crate::ops;
 use edition::Search;
@@ -11,14 +11,17 @@ use probe_rows::limits::BYTES;
 use probe_rows::limits::LINKS;
 use probe_rows::limits::PARENTS;
 use probe_rows::limits::ROOM;
+use probe_rows::limits::ROUTE;
 
 // The head of a case: its op, how many parents and how much else follow, how much room is lent, and the numbers that the
-// caller states.
+// caller states. The two words of the room are for op 9 the lengths of two rows.
 pub struct Head {
     pub op: u16,
     pub parents: usize,
     pub rest: usize,
     pub room: usize,
+    pub ordinary: u16,
+    pub detour: u16,
     pub search: Search,
     pub a: u16,
     pub b: u16,
@@ -46,11 +49,15 @@ fn head_of(raw: &[u8]) -> Head
         root: test_words::word(raw, 6),
         depth: test_words::word(raw, 7),
     };
+    let high = test_words::word(raw, 4);
+    let low = test_words::word(raw, 5);
     Head {
         op: test_words::word(raw, 0),
         parents: test_words::word(raw, 1) as usize,
         rest: long(test_words::word(raw, 2), test_words::word(raw, 3)),
-        room: long(test_words::word(raw, 4), test_words::word(raw, 5)),
+        room: long(high, low),
+        ordinary: high,
+        detour: low,
         search,
         a: test_words::word(raw, 8),
         b: test_words::word(raw, 9),
@@ -89,6 +96,26 @@ fn is_over_rows(head: Head) -> bool
     ROOM < head.c as usize
 }
 
+// Whether one of the two rows that op 9 lends is over its limit.
+fn is_over_routes(head: Head) -> bool
+    ensures { λ r. ⌜ r ≡ overRoutes head ⌝ }
+{
+    if ROUTE < head.ordinary as usize {
+        return true;
+    }
+    ROUTE < head.detour as usize
+}
+
+// Whether what words 4 and 5 lend is over its limit: the two rows of op 9, the room of any other.
+fn is_over_room(head: Head) -> bool
+    ensures { λ r. ⌜ r ≡ overRoom head ⌝ }
+{
+    if head.op == ops::FORWARD {
+        return is_over_routes(head);
+    }
+    ROOM < head.room
+}
+
 // The most that may follow the parents.
 fn most_rest(op: u16) -> usize
     ensures { λ r. ⌜ r ≡ mostRest op ⌝ }
@@ -96,14 +123,15 @@ fn most_rest(op: u16) -> usize
     if ops::takes_bytes(op) { BYTES } else { LINKS }
 }
 
-// Whether the head is over a limit. Those on parents, links or bytes and room hold for every op, also where they are unused.
+// Whether the head is over a limit. Those on parents and on links or bytes hold for every op, also where they are unused; that on
+// room for every op but 9, which has one for each of its two rows.
 pub fn is_over(head: Head) -> bool
     ensures { λ r. ⌜ r ≡ isOver head ⌝ }
 {
     if PARENTS < head.parents {
         return true;
     }
-    if ROOM < head.room {
+    if is_over_room(head) {
         return true;
     }
     if most_rest(head.op) < head.rest {

@@ -6,11 +6,14 @@ ghost use lib.ListN.{length};
 ghost use Rattle.probe.specs.Limits.{isOp, takesBytes};
 use crate::input::Head;
 use edition::Change;
+use edition::Measure;
+use forward::Ask;
 use probe_files::blocks;
 use probe_files::files;
 use probe_files::reading;
 use probe_network::changes;
 use probe_network::checking;
+use probe_network::forwards;
 use probe_network::maps;
 use probe_network::routes;
 use probe_network::single;
@@ -32,6 +35,8 @@ pub const READ: u16 = 7;
 
 pub const PAYLOAD: u16 = 8;
 
+pub const FORWARD: u16 = 9;
+
 // The ops of the project's own.
 pub const ROUTE: u16 = 101;
 
@@ -50,7 +55,7 @@ pub fn is_op(op: u16) -> bool
     if op < CHECK {
         return false;
     }
-    if op <= PAYLOAD {
+    if op <= FORWARD {
         return true;
     }
     if op < ROUTE {
@@ -75,6 +80,24 @@ fn change_of(head: Head) -> Change {
         link: head.a,
         mark: head.b,
         length: head.c,
+    }
+}
+
+// The measure that a word names: 0 sum, 1 incr, 2 max, and a word over 2 counts modulo 3.
+fn measure_of(word: u16) -> Measure {
+    match word % 3 {
+        0 => Measure::Sum,
+        1 => Measure::Incr,
+        _ => Measure::Max,
+    }
+}
+
+// What a head asks of the forwarder: start a, failed node b, measure c.
+fn ask_of(head: Head) -> Ask {
+    Ask {
+        start: head.a,
+        failed: head.b,
+        measure: measure_of(head.c),
     }
 }
 
@@ -105,8 +128,20 @@ fn answer_network(head: Head, links: &[u16], parents: &[u16], out: &mut [u8], at
 {
     let op = head.op;
     let search = head.search;
-    if PAYLOAD < op {
+    if FORWARD < op {
         return answer_own(head, links, parents, out, at);
+    }
+    if op == FORWARD {
+        return forwards::forward(
+            links,
+            parents,
+            search,
+            ask_of(head),
+            head.ordinary,
+            head.detour,
+            out,
+            at,
+        );
     }
     if op == CHECK {
         return checking::check(links, parents, search, out, at);

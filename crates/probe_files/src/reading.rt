@@ -24,20 +24,6 @@ fn put_links(out: &mut [u8], at: usize, links: &[u16], m: usize) -> usize
     waits
 }
 
-// Prints the parents in one line.
-fn put_parents(out: &mut [u8], at: usize, parents: &[u16]) -> usize
-    ensures { λ r. ⌜ r ≤ length (now (out .exit)) ⌝ }
-{
-    let mut waits = output::put(out, at, b"parents");
-    let mut u = 0;
-    while u < parents.len() {
-        let parent = rows::at(parents, u, 0);
-        waits = output::put_field(out, waits, parent as u64);
-        u += 1;
-    }
-    output::put_newline(out, waits)
-}
-
 // Prints what the header of an accepted file says.
 fn put_header(out: &mut [u8], at: usize, header: Header) -> usize
     ensures { λ r. ⌜ r ≤ length (now (out .exit)) ⌝ }
@@ -83,7 +69,7 @@ fn put_accepted(
         return told;
     }
     let linked = put_links(out, told, links, m);
-    let named = put_parents(out, linked, rows::first(parents, n));
+    let named = printing::put_row(out, linked, b"parents", rows::first(parents, n));
     let listed = printing::put_entries(out, named, row, n);
     rest::put(out, listed, is_kept(links, parents, row, n, m))
 }

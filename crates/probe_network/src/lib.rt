@@ -2,6 +2,7 @@
 // each op of the probe's table, over the rows that a case lends. The writer's stands in `probe_files`.
 pub mod changes;
 pub mod checking;
+pub mod forwards;
 pub mod maps;
 pub mod routes;
 pub mod single;

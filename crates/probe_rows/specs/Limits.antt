@@ -13,3 +13,7 @@ mostBytes = 33000
 
 abbrev pub mostRoom : ℕ
 mostRoom = 40000
+
+-- The most numbers of each of the two rows that it lends to the forwarder.
+abbrev pub mostRoute : ℕ
+mostRoute = 5000

@@ -8,3 +8,6 @@ pub const LINKS: usize = 8400;
 pub const BYTES: usize = 33000;
 
 pub const ROOM: usize = 40000;
+
+// The most numbers of each of the two rows that it lends to the forwarder.
+pub const ROUTE: usize = 5000;

@@ -1,4 +1,4 @@
-// Printing of lent rows: the record of a link, the lines of entries, and bytes.
+// Printing of lent rows: numbers in one line, the record of a link, the lines of entries, and bytes.
 ghost use Prim.Native.Nat.{_≤_};
 ghost use lib.ListN.{length};
 use crate::limits::PARENTS;
@@ -6,6 +6,20 @@ use edition::Entry;
 
 // Bytes a line.
 const LINE: usize = 32;
+
+// Prints a name and the numbers of a row in one line.
+pub fn put_row(out: &mut [u8], at: usize, name: &[u8], row: &[u16]) -> usize
+    ensures { λ r. ⌜ r ≤ length (now (out .exit)) ⌝ }
+{
+    let mut waits = output::put(out, at, name);
+    let mut i = 0;
+    while i < row.len() {
+        let number = rows::at(row, i, 0);
+        waits = output::put_field(out, waits, number as u64);
+        i += 1;
+    }
+    output::put_newline(out, waits)
+}
 
 // Prints the record of link e, where there is one.
 pub fn put_link(out: &mut [u8], at: usize, links: &[u16], e: u16) -> usize

@@ -71,6 +71,9 @@ module _ (g : Net) (s : Sound g) where
     pub parent-in : g .parent u < g .links
     parent-in = leb-false (g .links) (g .parent u) (parent-says .0)
 
+    pub parent-serves : inService (g .link (g .parent u)) ≡ true
+    parent-serves = not-false (inService (g .link (g .parent u))) (parent-says .1)
+
     pub parent-touches : touches (g .link (g .parent u)) u ≡ true
     parent-touches = not-false (touches (g .link (g .parent u)) u) (parent-says .2)
 

@@ -35,7 +35,7 @@ module _ (t : Tree) (x : ℕ) (l : Link) where
   unfolding crosses
   crossing-splits e h = ends-split (and-right (inService l && not (eqb e (t .link x))) _ h)
 
-  crossing-serves : (e : ℕ) → crosses t x e l ≡ true → inService l ≡ true
+  pub crossing-serves : (e : ℕ) → crosses t x e l ≡ true → inService l ≡ true
   unfolding crosses
   crossing-serves e h = and-left (inService l) (not (eqb e (t .link x))) (and-left (inService l && not (eqb e (t .link x))) _ h)
 

@@ -79,7 +79,7 @@ module _ (g : Net) (x : ℕ) where
   stated-below false true p q = rw (p, q) (far p q)
   stated-below false false p q = rw (p, q) (bridge q)
 
-  stated : eqb x (g .search .root) ≡ false → Stated (state g x)
+  pub stated : eqb x (g .search .root) ≡ false → Stated (state g x)
   stated r = subst Stated (sym (state-below r)) (stated-below (hasCandidate g x) (crossed g x) refl refl)
 
   -- state 3 exactly where nothing crosses

@@ -232,7 +232,7 @@ pub record LinkedTo (g : Net) (n : ℕ) (asked : List ℕ) (k : ℕ) (row row′
   pub size : length row′ ≡ length row
   pub goes-on : (before : List ℕ) → Entries n (want g asked before 0) before row → Entries n (want g asked before k) before row′
 
--- what the search for the entry of x alone goes by: a survey, and a row in which the nodes below x, and no others, have the number
+-- what the search for the entry of x alone goes by: a survey, and a row in which the nodes of T(x), and no others, have the number
 -- that x has
 pub record Telling (g : Net) (x : ℕ) (survey row : List ℕ) : Type 0 where
   pub surveyed : Surveyed g survey
@@ -253,7 +253,7 @@ pub record Risen (g : Net) (survey : List ℕ) (x : ℕ) (s r : Side) : Type 0 w
   pub from-is : r .from ≡ s .from
   pub lower-is : r .lower ≡ s .lower
 
--- link e, which is l, crosses x, and its first end is below x or not
+-- link e, which is l, crosses x, and its first end is in T(x) or not
 pub record Crossed (g : Net) (search : Search) (survey : List ℕ) (x e : ℕ) (l : Link) (first : Bool) : Type 0 where
   pub surveyed : Surveyed g survey
   pub search-is : g .search ≡ search

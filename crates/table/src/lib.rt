@@ -695,7 +695,7 @@ pub fn check_entry(links: &[u16], parents: &[u16], search: Search, x: usize) -> 
     rows::refuse_if(sizes.nodes <= x, Why::NoRoute, x)
 }
 
-// Whether u is below x, by a row that tells it.
+// Whether u is in T(x), by a row that tells it.
 fn is_below(ranks: &[u32], x: usize, u: usize) -> bool
     requires { ⌜ ((g : Net) × (survey : List ℕ) × Telling g x survey (now ranks) × (u < g .nodes)) ⌝ }
     ensures { λ r.
@@ -733,7 +733,7 @@ fn way_through(survey: &[u64], l: Link) -> u64
     p.near + l.length as u64 + q.near
 }
 
-// A climb from below x, up to x.
+// A climb that begins in T(x), up to x.
 fn climb_to(survey: &[u64], first: Side, x: usize) -> Side
     requires { ⌜ ((g : Net) × Rising g (now survey) x first) ⌝ }
     ensures { λ r. ⌜ ((g : Net) → Rising g (now (survey .entry)) x first → Risen g (now (survey .entry)) x first r × (r .climb .node ≡ x)) ⌝ }
@@ -745,7 +745,7 @@ fn climb_to(survey: &[u64], first: Side, x: usize) -> Side
     a
 }
 
-// The entry of x with one more link, e, which crosses x. The end that is below x is its first, or its second.
+// The entry of x with one more link, e, which crosses x; `first` says whether its end in T(x) is the first.
 fn with_crossed(
     search: Search,
     survey: &[u64],

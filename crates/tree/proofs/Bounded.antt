@@ -113,7 +113,7 @@ module _ (t : Tree) (closed : (u : ℕ) → u < t .size → t .up u < t .size) w
         (λ r j. under-below z′ y hz′ lz′ j)))
 
     -- the way around has at most as many nodes as there are
-    around-few : length (upTo (meet t u z) (route t u)) + length (upTo (meet t u z) (route t z)) + 1 + length (route t z′) ≤ t .size
+    pub around-few : length (upTo (meet t u z) (route t u)) + length (upTo (meet t u z) (route t z)) + 1 + length (route t z′) ≤ t .size
     unfolding around
     around-few =
         omega (

@@ -4,14 +4,15 @@
 //! The library is found by `-L`: `RUSTFLAGS="-L native=DIRECTORY" cargo build`, where `rt staticlib doeragyeol` wrote
 //! `libdoeragyeol.a` to the directory `target/staticlib`.
 
+pub mod program;
 pub mod raw;
 
 /// The version of the interface that these calls are made for. What is linked refers to it by name, so a library of another
 /// version does not link.
-pub const VERSION: u32 = 3;
+pub const VERSION: u32 = 4;
 
 #[used]
-static MADE_FOR: unsafe extern "C" fn() -> u32 = raw::doeragyeol_version_3;
+static MADE_FOR: unsafe extern "C" fn() -> u32 = raw::doeragyeol_version_4;
 
 /// The most nodes and links there are.
 pub const NODES: usize = 512;
@@ -26,6 +27,13 @@ pub const MAP_WORDS: usize = 8;
 
 /// Bytes of the longest file.
 pub const FILE_BYTES: usize = 32256;
+
+/// Numbers that each of the forwarder's two rows must have.
+pub const ROUTE_ROW: usize = 2 * NODES - 2;
+
+/// Which row of the forwarder applies.
+pub const ORDINARY: u64 = 0;
+pub const DETOUR: u64 = 1;
 
 /// The depth that is the whole search, and no link and no node where one is named.
 pub const WHOLE: u16 = 65535;
@@ -58,6 +66,14 @@ pub struct Refusal {
     pub number: u32,
     pub place: u32,
 }
+
+impl std::fmt::Display for Refusal {
+    fn fmt(&self, to: &mut std::fmt::Formatter) -> std::fmt::Result {
+        write!(to, "refused {} {}", self.number, self.place)
+    }
+}
+
+impl std::error::Error for Refusal {}
 
 /// The numbers that a caller names beside the rows of a network.
 #[derive(Clone, Copy, PartialEq, Eq, Debug)]
@@ -102,6 +118,30 @@ pub struct Crossing {
     pub link: u16,
     pub from: u16,
     pub to: u16,
+}
+
+/// What is asked of the forwarder: the way of a start while the tree link of the failed node is down, by the swap link that is
+/// best under a measure.
+#[derive(Clone, Copy, PartialEq, Eq, Debug)]
+pub struct Failure {
+    pub start: u16,
+    pub failed: u16,
+    pub measure: Measure,
+}
+
+/// The row that a way stands in: the ordinary one where the start is not cut off, else the detour's.
+#[derive(Clone, Copy, PartialEq, Eq, Debug)]
+pub enum Row {
+    Ordinary,
+    Detour,
+}
+
+/// A way to the root: its row, its nodes in the order of passing, and its length.
+#[derive(Clone, Copy, PartialEq, Eq, Debug)]
+pub struct Way<'a> {
+    pub row: Row,
+    pub nodes: &'a [u16],
+    pub length: u64,
 }
 
 /// What a file's header says.
@@ -275,6 +315,52 @@ pub fn read(
     })
 }
 
+/// The way from a start to the root while the tree link of a node is down. Each row has `ROUTE_ROW` numbers or more; the way
+/// stands at the beginning of the row that applies, and the other stays as it is.
+pub fn forward<'a>(
+    links: &[u16],
+    parents: &[u16],
+    search: Search,
+    failure: Failure,
+    ordinary: &'a mut [u16],
+    detour: &'a mut [u16],
+) -> Result<Way<'a>, Refusal> {
+    let ask = match failure.measure {
+        Measure::Sum => raw::doeragyeol_forward_sum,
+        Measure::Incr => raw::doeragyeol_forward_incr,
+        Measure::Max => raw::doeragyeol_forward_max,
+    };
+    let mut way = [0; 3];
+    said(unsafe {
+        ask(
+            links.as_ptr(),
+            links.len(),
+            parents.as_ptr(),
+            parents.len(),
+            search.root,
+            search.depth,
+            failure.start,
+            failure.failed,
+            ordinary.as_mut_ptr(),
+            ordinary.len(),
+            detour.as_mut_ptr(),
+            detour.len(),
+            way.as_mut_ptr(),
+            way.len(),
+        )
+    })?;
+    let [row, count, length] = way;
+    let (row, nodes) = match row {
+        ORDINARY => (Row::Ordinary, ordinary),
+        _ => (Row::Detour, detour),
+    };
+    Ok(Way {
+        row,
+        nodes: &nodes[..count as usize],
+        length,
+    })
+}
+
 /// How the swap link of an entry under a measure is crossed; `None` where the entry has none. `links` is the row of the entry's
 /// network. Panics where `entry` is shorter than an entry, or `links` does not have the swap link.
 pub fn crossing(entry: &[u64], measure: Measure, links: &[u16]) -> Option<Crossing> {
@@ -283,7 +369,10 @@ pub fn crossing(entry: &[u64], measure: Measure, links: &[u16]) -> Option<Crossi
     }
     let link = entry[ENTRY_SUM + measure as usize];
     let lower = entry[ENTRY_SUM_LOWER + measure as usize];
-    let record = &links[link as usize * LINK_NUMBERS..][..LINK_NUMBERS];
+    let record = links
+        .chunks_exact(LINK_NUMBERS)
+        .nth(link as usize)
+        .expect("the row has the entry's swap link");
     let (from, to) = match lower {
         FIRST_END => (record[0], record[1]),
         _ => (record[1], record[0]),

@@ -1,8 +1,8 @@
-//! The library's six functions and its version, as `include/doeragyeol.h` declares them and says what a caller owes.
+//! The library's nine functions and its version, as `include/doeragyeol.h` declares them and says what a caller owes.
 
 #[link(name = "doeragyeol", kind = "static")]
 extern "C" {
-    pub fn doeragyeol_version_3() -> u32;
+    pub fn doeragyeol_version_4() -> u32;
 
     pub fn doeragyeol_check(
         links: *const u16,
@@ -77,5 +77,56 @@ extern "C" {
         entries_length: usize,
         header: *mut u64,
         header_length: usize,
+    ) -> u32;
+
+    pub fn doeragyeol_forward_sum(
+        links: *const u16,
+        links_length: usize,
+        parents: *const u16,
+        parents_length: usize,
+        root: u16,
+        depth: u16,
+        start: u16,
+        failed: u16,
+        ordinary: *mut u16,
+        ordinary_length: usize,
+        detour: *mut u16,
+        detour_length: usize,
+        way: *mut u64,
+        way_length: usize,
+    ) -> u32;
+
+    pub fn doeragyeol_forward_incr(
+        links: *const u16,
+        links_length: usize,
+        parents: *const u16,
+        parents_length: usize,
+        root: u16,
+        depth: u16,
+        start: u16,
+        failed: u16,
+        ordinary: *mut u16,
+        ordinary_length: usize,
+        detour: *mut u16,
+        detour_length: usize,
+        way: *mut u64,
+        way_length: usize,
+    ) -> u32;
+
+    pub fn doeragyeol_forward_max(
+        links: *const u16,
+        links_length: usize,
+        parents: *const u16,
+        parents_length: usize,
+        root: u16,
+        depth: u16,
+        start: u16,
+        failed: u16,
+        ordinary: *mut u16,
+        ordinary_length: usize,
+        detour: *mut u16,
+        detour_length: usize,
+        way: *mut u64,
+        way_length: usize,
     ) -> u32;
 }

@@ -1,4 +1,4 @@
-//! The Harbour case through the wrappers: read, changed, written.
+//! The Harbour case through the wrappers: read, changed, written, and asked for the way past a failed link.
 
 use doeragyeol::*;
 
@@ -196,6 +196,133 @@ fn a_short_row_of_values_is_refused_in_its_place() {
     assert_eq!(ask(&[], &mut header), refused(20, 0));
     assert_eq!(header, [7; 4]);
     assert_eq!((links, parents, entries), ([7; 28], [7; 5], [7; 50]));
+}
+
+const SEVENS: [u16; ROUTE_ROW + 1] = [7; ROUTE_ROW + 1];
+
+/// The way that the forwarder tells, as its row, nodes and length, in rows of these lengths. What it does not tell of must keep
+/// its sevens.
+fn told(h: &Harbour, failure: Failure, rooms: [usize; 2]) -> Result<(Row, Vec<u16>, u64), Refusal> {
+    let (mut ordinary, mut detour) = (SEVENS, SEVENS);
+    let asked = forward(
+        &h.links,
+        &h.parents,
+        h.search,
+        failure,
+        &mut ordinary[..rooms[0]],
+        &mut detour[..rooms[1]],
+    );
+    let told = asked.map(|way| (way.row, way.nodes.to_vec(), way.length));
+    let mut right = [SEVENS, SEVENS];
+    if let Ok((row, nodes, _)) = &told {
+        right[*row as usize][..nodes.len()].copy_from_slice(nodes);
+    }
+    assert_eq!([ordinary, detour], right);
+    told
+}
+
+/// The way of a start past a failed node, in rows that are just long enough.
+fn way(
+    h: &Harbour,
+    start: u16,
+    failed: u16,
+    measure: Measure,
+) -> Result<(Row, Vec<u16>, u64), Refusal> {
+    let failure = Failure {
+        start,
+        failed,
+        measure,
+    };
+    told(h, failure, [ROUTE_ROW; 2])
+}
+
+/// Node 1 is cut off with 2 and 3 below it. Its swap link under sum and max is 3, from node 2; under incr it is 4, from node 3.
+#[test]
+fn forwards_past_a_failed_link() {
+    let h = harbour();
+    let ordinary = |nodes: &[u16], length| Ok((Row::Ordinary, nodes.to_vec(), length));
+    let detour = |nodes: &[u16], length| Ok((Row::Detour, nodes.to_vec(), length));
+    for measure in [Measure::Sum, Measure::Max] {
+        assert_eq!(way(&h, 3, 1, measure), detour(&[3, 1, 2, 0], 10));
+        assert_eq!(way(&h, 2, 1, measure), detour(&[2, 1, 2, 0], 12));
+        assert_eq!(way(&h, 1, 1, measure), detour(&[1, 2, 0], 9));
+    }
+    assert_eq!(way(&h, 3, 1, Measure::Incr), detour(&[3, 1, 3, 0], 9));
+    assert_eq!(way(&h, 1, 1, Measure::Incr), detour(&[1, 3, 0], 8));
+    for measure in [Measure::Sum, Measure::Incr, Measure::Max] {
+        assert_eq!(way(&h, 4, 1, measure), ordinary(&[4, 0], 9));
+        assert_eq!(way(&h, 3, 4, measure), ordinary(&[3, 1, 0], 3));
+        assert_eq!(way(&h, 0, 1, measure), ordinary(&[0], 0));
+    }
+}
+
+/// At depth 0 node 1 has no swap link; who is not cut off has a way all the same.
+#[test]
+fn forwards_only_where_there_is_a_way() {
+    let mut h = harbour();
+    assert_eq!(way(&h, 5, 1, Measure::Sum), refused(15, 0));
+    assert_eq!(way(&h, 5, 5, Measure::Sum), refused(15, 0));
+    assert_eq!(way(&h, 3, 0, Measure::Sum), refused(16, 0));
+    assert_eq!(way(&h, 3, NO_NODE, Measure::Sum), refused(16, 0));
+    assert_eq!(way(&h, 4, 4, Measure::Sum), refused(17, 4));
+    h.search.depth = 0;
+    assert_eq!(way(&h, 3, 1, Measure::Incr), refused(17, 1));
+    let right = Ok((Row::Ordinary, vec![4, 0], 9));
+    assert_eq!(way(&h, 4, 1, Measure::Incr), right);
+    h.search.root = 5;
+    assert_eq!(way(&h, 5, 1, Measure::Incr), refused(3, 0));
+}
+
+/// Either row that is short is refused, before what is asked is looked at.
+#[test]
+fn the_forwarder_needs_two_long_rows() {
+    let h = harbour();
+    let measure = Measure::Max;
+    for (start, failed) in [(4, 1), (3, 1), (5, 5), (4, 4)] {
+        let failure = Failure {
+            start,
+            failed,
+            measure,
+        };
+        for rooms in [
+            [ROUTE_ROW - 1, ROUTE_ROW],
+            [ROUTE_ROW, ROUTE_ROW - 1],
+            [0; 2],
+        ] {
+            assert_eq!(told(&h, failure, rooms), refused(10, 0));
+        }
+    }
+}
+
+/// A row too short for the three values of a way is 10 too.
+#[test]
+fn a_short_row_for_a_way_is_refused() {
+    let h = harbour();
+    let (mut ordinary, mut detour, mut way) = (SEVENS, SEVENS, [7; 3]);
+    let mut ask = |start: u16, values: usize| {
+        said(unsafe {
+            raw::doeragyeol_forward_sum(
+                h.links.as_ptr(),
+                h.links.len(),
+                h.parents.as_ptr(),
+                h.parents.len(),
+                h.search.root,
+                h.search.depth,
+                start,
+                1,
+                ordinary.as_mut_ptr(),
+                ordinary.len(),
+                detour.as_mut_ptr(),
+                detour.len(),
+                way.as_mut_ptr(),
+                values,
+            )
+        })
+    };
+    assert_eq!(ask(3, 2), refused(10, 0));
+    assert_eq!(ask(5, 2), refused(10, 0));
+    assert_eq!(ask(5, 3), refused(15, 0));
+    assert_eq!((ordinary, detour, way), (SEVENS, SEVENS, [7; 3]));
 }
 
 #[test]

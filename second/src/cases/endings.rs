@@ -6,7 +6,7 @@ use crate::limits::*;
 use crate::probe::*;
 
 /// The number of endings. The seed modulo this number chooses one.
-pub const ENDINGS: u64 = 21;
+pub const ENDINGS: u64 = 25;
 
 /// The ending of a seed.
 pub fn ending(seed: u64) -> Vec<u8> {
@@ -20,7 +20,7 @@ pub fn ending(seed: u64) -> Vec<u8> {
         4 => whole[..whole.len() - 1].to_vec(),
         5 => file[..file.len() - 1].to_vec(),
         6 => stops(&whole, |head| head.op = 0),
-        7 => stops(&whole, |head| head.op = PAYLOAD_OF + 1),
+        7 => stops(&whole, |head| head.op = FORWARD + 1),
         8 => stops(&whole, |head| {
             head.op = 65_535;
             head.parents = PROBE_PARENTS + 1;
@@ -45,16 +45,36 @@ pub fn ending(seed: u64) -> Vec<u8> {
             head.op = MEET;
             head.rest = PROBE_LINKS + 1;
         }),
-        _ => stops(&whole, |head| {
+        20 => stops(&whole, |head| {
             head.op = NODE;
             head.parents = PROBE_PARENTS + 1;
         }),
+        21 => stops(&whole, |head| {
+            forward_rooms(head, [PROBE_ROUTE + 1, ROUTE_ROW])
+        }),
+        22 => stops(&whole, |head| {
+            forward_rooms(head, [ROUTE_ROW, PROBE_ROUTE + 1])
+        }),
+        23 => stops(&whole, |head| {
+            forward_rooms(head, [PROBE_ROUTE; 2]);
+            head.parents = PROBE_PARENTS + 1;
+        }),
+        _ => {
+            let room = two_rooms([ROUTE_ROW; 2]);
+            let way = Case::over(FORWARD, &harbour(), WHOLE, room).encode();
+            way[..way.len() - 1].to_vec()
+        }
     }
 }
 
 fn read_rooms(head: &mut Head, rooms: [usize; 3]) {
     head.op = READ;
     head.abc = rooms.map(|room| room as u16);
+}
+
+fn forward_rooms(head: &mut Head, rooms: [usize; 2]) {
+    head.op = FORWARD;
+    head.room = two_rooms(rooms);
 }
 
 /// A head that stops the probe, with a sound case behind it that is not read.

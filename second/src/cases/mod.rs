@@ -7,13 +7,14 @@ mod changes;
 mod endings;
 mod entries;
 mod files;
+mod forwards;
 mod marks;
 mod networks;
 mod routes;
 mod series;
 
 use crate::file_faults::sound_file;
-use crate::limits::{PROBE_ROOM, WHOLE};
+use crate::limits::{PROBE_ROOM, ROUTE_ROW, WHOLE};
 use crate::named::large;
 use crate::probe::*;
 use crate::rng::Rng;
@@ -29,6 +30,7 @@ fn plain(op: u16) -> Vec<Case> {
         CHANGE | CHANGE_UNFILLED => changes::fixed(op),
         READ => files::fixed(),
         PAYLOAD_OF => blocks::fixed(),
+        FORWARD => forwards::fixed(),
         _ => asked::fixed(op),
     }
 }
@@ -45,6 +47,7 @@ pub fn random(rng: &mut Rng, op: u16) -> Case {
         CHANGE | CHANGE_UNFILLED => changes::random(rng, op),
         READ => files::random(rng),
         PAYLOAD_OF => blocks::random(rng),
+        FORWARD => forwards::random(rng),
         _ => asked::random(rng, op),
     }
 }
@@ -67,7 +70,7 @@ pub fn input(ops: &[u16], seed: u64, count: usize) -> Vec<u8> {
 
 /// Cases of every op that are kept with the probe: of the fixed ones that are
 /// not long the first, and of the others one in ten; and all of the lower ends.
-/// Of the project's own ops those that are chosen.
+/// Of the forwarder and of the project's own ops those that are chosen.
 pub fn kept() -> Vec<u8> {
     let mut out = Vec::new();
     for op in CHECK..=PAYLOAD_OF {
@@ -84,7 +87,8 @@ pub fn kept() -> Vec<u8> {
         ends.iter().for_each(|case| out.extend(case.encode()));
     }
     let own = (ROUTE..=NODE).flat_map(chosen);
-    own.for_each(|case| out.extend(case.encode()));
+    let more = forwards::chosen().into_iter().chain(own);
+    more.for_each(|case| out.extend(case.encode()));
     out
 }
 
@@ -96,6 +100,7 @@ pub fn largest(op: Option<u16>) -> Vec<u8> {
     match op {
         None => file.bytes,
         Some(READ) => files::case(&file).encode(),
+        Some(FORWARD) => Case::over(FORWARD, &most, WHOLE, two_rooms([ROUTE_ROW; 2])).encode(),
         Some(op) => Case::over(op, &most, WHOLE, PROBE_ROOM).encode(),
     }
 }

@@ -16,23 +16,23 @@ word-requires-3 c κs = search needs
 word-requires-4 : tie.Need-word-requires-4
 word-requires-4 c κs = search needs
 
-cast-t5 : tie.Need-cast-t5
-cast-t5 c = search needs
-
 word-requires-5 : tie.Need-word-requires-5
 word-requires-5 c κs = search needs
 
 word-requires-6 : tie.Need-word-requires-6
 word-requires-6 c κs = search needs
 
-long-requires : tie.Need-long-requires
-long-requires c κs = search needs
+cast-t7 : tie.Need-cast-t7
+cast-t7 c = search needs
 
 word-requires-7 : tie.Need-word-requires-7
 word-requires-7 c κs = search needs
 
 word-requires-8 : tie.Need-word-requires-8
 word-requires-8 c κs = search needs
+
+long-requires : tie.Need-long-requires
+long-requires c κs = search needs
 
 long-requires-2 : tie.Need-long-requires-2
 long-requires-2 c κs = search needs
@@ -58,12 +58,12 @@ head-of-spec =
     word-requires-2
     word-requires-3
     word-requires-4
-    cast-t5
     word-requires-5
     word-requires-6
-    long-requires
+    cast-t7
     word-requires-7
     word-requires-8
+    long-requires
     long-requires-2
     word-requires-9
     word-requires-10

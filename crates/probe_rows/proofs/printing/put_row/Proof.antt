@@ -1,19 +1,16 @@
--- `probe_files::reading::put_parents` meets its contract. Assumes nothing.
+-- `probe_rows::printing::put_row` meets its contract. Assumes nothing.
 use lib.ListN.{length}
 use Prim.Native.Nat.{_-_}
 use mathlib.Core.Path.{_≡_}
 use borrow.Author.Needs.{needs}
-use Rattle.probe_files.proofs.reading.put_parents.Statement.{statement}
-use Rattle.probe_files.proofs.reading.put_parents.Tie as tie
+use Rattle.probe_rows.proofs.printing.put_row.Statement.{statement}
+use Rattle.probe_rows.proofs.printing.put_row.Tie as tie
 
 abbrev Inv-loop : tie.InvT-loop
-Inv-loop out₀ at parents waits₀ u₀ out waits u = length out ≡ length out₀
+Inv-loop out₀ at name row waits₀ i₀ out waits i = length out ≡ length out₀
 
 abbrev μ-loop : tie.MeasureT-loop
-μ-loop out₀ at parents waits₀ u₀ out waits u = length parents - u
-
-slice-aggregate-put : tie.Need-slice-aggregate-put Inv-loop μ-loop
-slice-aggregate-put c = search needs
+μ-loop out₀ at name row waits₀ i₀ out waits i = length row - i
 
 put-requires : tie.Need-put-requires Inv-loop μ-loop
 put-requires c κs = search needs
@@ -30,8 +27,8 @@ cast-put-field c = search needs
 put-field-requires : tie.Need-put-field-requires Inv-loop μ-loop
 put-field-requires c κs = search needs
 
-add-u : tie.Need-add-u Inv-loop μ-loop
-add-u c = search needs
+add-i : tie.Need-add-i Inv-loop μ-loop
+add-i c = search needs
 
 loop-less : tie.Need-loop-less Inv-loop μ-loop
 loop-less c = search needs
@@ -48,19 +45,18 @@ same-length c = search needs
 returns : tie.Need-returns Inv-loop μ-loop
 returns c = search needs
 
-pub put-parents-spec : {M : Type 1} → statement M
-put-parents-spec =
+pub put-row-spec : {M : Type 1} → statement M
+put-row-spec =
     tie.close
     (tie.spec
     Inv-loop
     μ-loop
-    slice-aggregate-put
     put-requires
     loop-holds
     at-requires
     cast-put-field
     put-field-requires
-    add-u
+    add-i
     loop-less
     loop-again
     put-newline-requires

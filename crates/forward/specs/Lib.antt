@@ -1,0 +1,4 @@
+pub mod Forward
+pub mod Walk
+pub mod Answers
+pub mod Work
