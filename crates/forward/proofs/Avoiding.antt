@@ -8,20 +8,21 @@ use native.Mathlib.Omega.{arith}
 use lib.Dec.{eqb}
 use lib.ListN.{length}
 use borrow.Author.Tests.{eqb-true, eq-eqb, ne-eqb, not-true}
-use Rattle.rows.specs.Lists.{has, upTo, differ}
-use Rattle.rows.proofs.Tests.{clash, either, not-so, or-none, or-right, or-swap, and-left, and-right}
+use Rattle.rows.specs.Lists.{has, upTo}
+use Rattle.rows.proofs.Tests.{clash, either, or-none, or-right, or-swap, and-left, and-right}
 use Rattle.rows.proofs.Listed.{has-append, has-head}
 use Rattle.rows.proofs.Best.{one-some}
 use Rattle.network.specs.declared.Link.{Link}
 use Rattle.network.specs.Network.{Net, inService, isParent}
-use Rattle.tree.specs.Tree.{Tree, treeOf, route, under}
-use Rattle.tree.proofs.Ways.{way, way-head, route-root, route-step, before-on, before-longer, under-self}
+use Rattle.tree.specs.Tree.{Tree, treeOf, route}
+use Rattle.tree.proofs.Ways.{way, way-head, route-root, before-on, before-longer, under-self}
 use Rattle.tree.proofs.Climbing.{shorter}
 use Rattle.swap.specs.Swap.{crosses}
+use Rattle.table.proofs.Skipping.{own-first, own-second}
 use Rattle.forward.specs.Forward.{stepsUp}
-use Rattle.forward.specs.Walk.{joins}
+use Rattle.forward.specs.Walk.{joins, Step}
 use Rattle.forward.specs.Work.{Node, Upward}
-use Rattle.forward.proofs.Nodes.{homed, above, top}
+use Rattle.forward.proofs.Nodes.{fine, homed, above, top}
 use Rattle.forward.proofs.Walking.{tree-step}
 
 -- backwards a list has what it has
@@ -50,20 +51,12 @@ joins-one l u v h f s =
     (λ p. f (eqb-true (l .first) u (and-left _ _ p)) (eqb-true (l .second) v (and-right (eqb (l .first) u) _ p)))
     (λ q p. s (eqb-true (l .first) v (and-left _ _ p)) (eqb-true (l .second) u (and-right (eqb (l .first) v) _ p)))
 
--- a link that crosses x is not its tree link, and has one end below x
+-- a link that crosses x is not its tree link
 pub crossing-other : (t : Tree) (x e : ℕ) (l : Link) → crosses t x e l ≡ true → eqb e (t .link x) ≡ false
 unfolding crosses
 crossing-other t x e l k =
     not-true (eqb e (t .link x))
     (and-right (inService l) (not (eqb e (t .link x))) (and-left (inService l && not (eqb e (t .link x))) _ k))
-
-crossing-differs : (t : Tree) (x e : ℕ) (l : Link) → crosses t x e l ≡ true → differ (under t x (l .first)) (under t x (l .second)) ≡ true
-unfolding crosses
-crossing-differs t x e l k = and-right (inService l && not (eqb e (t .link x))) _ k
-
-differ-none : (b : Bool) → differ b b ≡ false
-differ-none true = refl
-differ-none false = refl
 
 -- what is among the values over a list is the value of one of them
 map-has : (f : ℕ → ℕ) (e : ℕ) (r : List ℕ) → has e (map f r) ≡ true → (y : ℕ) × (has y r ≡ true) × (f y ≡ e)
@@ -77,11 +70,6 @@ map-has f e (u ∷ r) h =
 module _ (g : Net) where
   abbrev t : Tree
   t = treeOf g
-
-  -- a node and its parent are both below x or neither, where the node is not x
-  same-side : (x y : ℕ) → Node g y → eqb y (t .root) ≡ false → eqb y x ≡ false → under t x y ≡ under t x (t .up y)
-  unfolding under has
-  same-side x y n r off = rw (route-step t y (homed g n) r, off)
 
   -- two nodes that have one parent link are one
   pub link-one : {x y : ℕ} → Node g x → Node g y → eqb x (t .root) ≡ false → eqb y (t .root) ≡ false → t .link y ≡ t .link x → x ≡ y
@@ -136,25 +124,14 @@ module _ (g : Net) where
         map-without (t .link) (t .link x) (upTo c (route t u))
         (λ y p q. clash p (subst (λ (v : ℕ). has v (upTo c (route t u)) ≡ false) (link-one n (passed y p .0) e (passed y p .1) q) h))
 
-    -- nor is a link that crosses some node
+    -- nor is a link that crosses some node: a parent link crosses none
     pub crossing-unused : (x e : ℕ) → crosses t x e (g .link e) ≡ true → has e (stepsUp t c u) ≡ false
-    unfolding stepsUp
-    crossing-unused x e k = map-without (t .link) e (upTo c (route t u)) (λ y p q. stays y (passed y p .0) (passed y p .1) q)
+    unfolding stepsUp treeOf
+    crossing-unused x e k = map-without (t .link) e (upTo c (route t u)) (λ y p q. own y (passed y p .0) (passed y p .1) q)
       where
-        differs : differ (under t x (g .link e .first)) (under t x (g .link e .second)) ≡ true
-        differs = crossing-differs t x e (g .link e) k
-
-        -- both ends of the parent link of y are below x, or none is
-        stays : (y : ℕ) → Node g y → eqb y (t .root) ≡ false → t .link y ≡ e → ⊥
-        stays y n r q =
-            let off : eqb y x ≡ false =
-            not-so (eqb y x)
-            (λ i. clash
-            (ap (λ (v : ℕ). eqb e (t .link v)) (sym (eqb-true y x i)) ∙ eq-eqb e (t .link y) (sym q))
-            (crossing-other t x e (g .link e) k))
-            in
-            let even : under t x y ≡ under t x (t .up y) = same-side x y n r off in
-            let s = subst (λ (v : ℕ). joins (g .link v) y (t .up y) ≡ true) q (tree-step g n r .joined) in
-            joins-one (g .link e) y (t .up y) s
-            (λ a b. clash differs (rw (a, b, even) (differ-none (under t x (t .up y)))))
-            (λ a b. clash differs (rw (a, b, even) (differ-none (under t x (t .up y)))))
+        own : (y : ℕ) → Node g y → eqb y (t .root) ≡ false → t .link y ≡ e → ⊥
+        own y n r q =
+            let s = subst (λ (v : ℕ). Step g v y (t .up y)) q (tree-step g n r) in
+            joins-one (g .link e) y (t .up y) (s .joined)
+            (λ a b. clash k (own-first g (fine g n) e (s .real) (ap (g .parent) a ∙ q) x))
+            (λ a b. clash k (own-second g (fine g n) e (s .real) (ap (g .parent) b ∙ q) x))

@@ -1,18 +1,16 @@
 -- Nodes of a network that is taken, and what is on their routes. Assumes nothing.
-use mathlib.Core.Path.{_≡_, refl, sym, subst, _∙_}
+use mathlib.Core.Path.{_≡_, refl}
 use mathlib.Core.Bool.{true, false}
 use mathlib.Core.List.{List}
 use Prim.Native.Nat.{ℕ, suc, _+_, _<_, _≤_}
 use native.Mathlib.Omega.{arith}
 use lib.Dec.{eqb}
 use lib.ListN.{length}
-use borrow.Author.Tests.{ne-eqb}
 use Rattle.edition.specs.declared.Search.{Search}
 use Rattle.edition.specs.Limits.{nodeLimit}
-use Rattle.rows.specs.Lists.{has}
 use Rattle.network.specs.Network.{Net, netOf}
 use Rattle.tree.specs.Tree.{treeOf, route, under, hops}
-use Rattle.tree.proofs.Ways.{Home, hops-cut, above-root, under-root, under-self, under-trans, route-step}
+use Rattle.tree.proofs.Ways.{Home, hops-cut, under-root, under-self, under-trans, short-of, over-next}
 use Rattle.tree.proofs.Climbing.{shorter, up-above}
 use Rattle.tree.proofs.Bounded.{under-below}
 use Rattle.sound.proofs.Sounds.{Sound, sound}
@@ -23,10 +21,6 @@ module _ (g : Net) where
   pub size-is : treeOf g .size ≡ g .nodes
   unfolding treeOf
   size-is = refl
-
-  pub root-is : treeOf g .root ≡ g .search .root
-  unfolding treeOf
-  root-is = refl
 
   module _ {u : ℕ} (n : Node g u) where
     pub fine : Sound g
@@ -77,20 +71,14 @@ module _ (g : Net) where
 
     -- is not the root
     pub not-top : eqb c (treeOf g .root) ≡ false
-    not-top =
-        ne-eqb c (treeOf g .root)
-        (λ q. off (q ∙ sym (above-root (treeOf g) x (subst (Home (treeOf g)) q hc) (subst (λ (v : ℕ). under (treeOf g) x v ≡ true) q (w .on)))))
+    not-top = short-of (treeOf g) c x hc (w .on) off
 
     pub next : Node g (treeOf g .up c)
     next = above (w .node) (treeOf g .up c) (up-above (treeOf g) c hc c (under-self (treeOf g) c hc) not-top)
 
     -- and its parent is below x
     pub next-on : under (treeOf g) x (treeOf g .up c) ≡ true
-    unfolding under has
-    next-on = rw (route-step (treeOf g) c hc not-top, ne-eqb c x off) at (w .on)
-
-    pub upward-next : Upward g x (treeOf g .up c)
-    upward-next = record { node = next; on = next-on }
+    next-on = over-next (treeOf g) c x hc (w .on) off
 
     pub hops-next : hops (treeOf g) x c ≡ suc (hops (treeOf g) x (treeOf g .up c))
     hops-next =

@@ -89,7 +89,7 @@ module _ (links parents : List ℕ) (search : Search) (held : (i : ℕ) → getD
     unfolding wayUp hops
     dist-small =
         let far = total-bound (t .rise) longest (few links parents search held) (upTo (c .node) (route t u)) in
-        omega (arith, o .along .dist-is, o .along .hops-is, hops-few, hops-few)
+        omega (arith, o .along .dist-is, o .along .hops-is, hops-few)
 
     reached-top : Reached t x u c
     reached-top = record { along = o .along; here = here-is; few = hops-few; small = dist-small }

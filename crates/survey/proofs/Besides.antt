@@ -11,7 +11,7 @@ use Rattle.rows.specs.Lists.{has, upTo}
 use Rattle.rows.proofs.Tests.{clash, either, and-left, and-right, not-so}
 use Rattle.tree.specs.Tree.{Tree, route, dist, under, inside}
 use Rattle.rows.specs.Count.{maxTo}
-use Rattle.tree.proofs.Ways.{Way, top, hop, Home, way, under-self, under-trans, under-cut, before-under, route-step}
+use Rattle.tree.proofs.Ways.{Way, top, hop, Home, way, under-self, under-trans, under-cut, before-under, over-next}
 use Rattle.tree.proofs.Climbing.{up-above, below-not}
 use Rattle.survey.specs.Known.{deepest, aside}
 use Rattle.survey.proofs.Inside.{inside-reach, inside-bound, beside-reach, beside-bound, aside-more}
@@ -25,12 +25,6 @@ module _ (t : Tree) (all : (u : ℕ) → u < t .size → Home t u) (closed : (u 
       (λ e. clash (before-under t u x y h p e) n)
       (λ e f. f)
 
-  -- a node that is not x and below x is below x by its parent
-  by-parent : (x y : ℕ) → Home t y → eqb y (t .root) ≡ false → under t x y ≡ true → (y ≡ x → ⊥) → under t x (t .up y) ≡ true
-  unfolding under has
-  by-parent x y h e p n =
-      either (eqb y x) (has x (route t (t .up y))) (rw (route-step t y h e) at p) (λ q. absurd (n (eqb-true y x q))) (λ q r. r)
-
   -- siblings have nothing in common
   siblings :
       (u x y : ℕ)
@@ -41,9 +35,9 @@ module _ (t : Tree) (all : (u : ℕ) → u < t .size → Home t u) (closed : (u 
       (λ p. go p (under t x y) refl)
     where
       go : under t x u ≡ true → (b : Bool) → under t x y ≡ b → ⊥
-      go p true f = clash (by-parent x y (all y ly) ry f n) (subst (λ (v : ℕ). under t x v ≡ false) (sym q) (below-not t x (all x lx) rx))
+      go p true f = clash (over-next t y x (all y ly) f n) (subst (λ (v : ℕ). under t x v ≡ false) (sym q) (below-not t x (all x lx) rx))
       go p false f =
-          clash (by-parent y x (all x lx) rx (in-line u x y h p e f) (λ z. n (sym z)))
+          clash (over-next t x y (all x lx) (in-line u x y h p e f) (λ z. n (sym z)))
           (subst (λ (v : ℕ). under t y v ≡ false) q (below-not t y (all y ly) ry))
 
   -- a node below p that is not p is below a child of p

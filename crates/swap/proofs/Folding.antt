@@ -1,6 +1,6 @@
 -- The sum by what is kept at each node: sum + turn(z) = base(x) + count(x) * K, with K = d(z) + w + d(z'). Assumes nothing.
 use mathlib.Core.Path.{_≡_, refl, sym, subst, ap, _∙_}
-use mathlib.Core.Bool.{Bool, true, false, _||_}
+use mathlib.Core.Bool.{Bool, true, false}
 use Prim.Native.Nat.{ℕ, _+_, _*_, _-_, _<_, _≤_}
 use native.Mathlib.Nat.{one-mul, zero-mul, add-mul}
 use native.Mathlib.Omega.{arith}
@@ -13,7 +13,7 @@ use Rattle.rows.proofs.Tests.{clash, either, not-so}
 use Rattle.rows.proofs.Counting.{sum-cong, sum-add, sum-le, sum-times, sum-balance}
 use Rattle.network.specs.declared.Link.{Link}
 use Rattle.tree.specs.Tree.{Tree, route, dist, under, meet, inside}
-use Rattle.tree.proofs.Ways.{Home, home-up, home-step, under-self, under-trans, under-cut, before-under, route-step}
+use Rattle.tree.proofs.Ways.{Home, home-up, home-step, under-self, under-trans, under-cut, before-under, route-step, under-step}
 use Rattle.tree.proofs.Meeting.{meet-under, meet-one, meet-two, apart-dist, under-both, home-meet}
 use Rattle.tree.proofs.Climbing.{up-above, along-all}
 use Rattle.survey.proofs.Inside.{inside-in, inside-out}
@@ -59,10 +59,6 @@ module _ (t : Tree) where
       hx : Home t x
       hx = home-up t z x hz pz
 
-      on-step : (c : ℕ) → under t c x ≡ (eqb x c || under t c (t .up x))
-      unfolding under has
-      on-step c = ap (has c) (route-step t x hx nx)
-
       px : under t (t .up x) x ≡ true
       px = up-above t x hx x (under-self t x hx) nx
 
@@ -81,7 +77,7 @@ module _ (t : Tree) where
         where
           step : (c : ℕ) → under t c x ≡ true → under t x c ≡ false → under t c (t .up x) ≡ true
           step c r f =
-              either (eqb x c) (under t c (t .up x)) (sym (on-step c) ∙ r)
+              either (eqb x c) (under t c (t .up x)) (sym (under-step t x c hx nx) ∙ r)
               (λ q. clash (subst (λ (v : ℕ). under t x v ≡ true) (eqb-true x c q) (under-self t x hx)) f)
               (λ q k. k)
 

@@ -1,25 +1,25 @@
 -- One entry carried through the links: a climb from the lower end of a link that crosses x up to x, and the entry of one more link.
 -- Assumes nothing.
 use mathlib.Core.Path.{_≡_, refl, sym, subst, ap, _∙_}
-use mathlib.Core.Bool.{Bool, true, false, cond, not, _&&_, _||_, Bool·beq}
+use mathlib.Core.Bool.{Bool, true, false, cond, not, _&&_, Bool·beq}
 use mathlib.Core.List.{List}
 use Prim.Native.Nat.{ℕ, _+_, _<_, _≤_, _^_}
 use native.Mathlib.Numerals.{add-one}
 use native.Mathlib.Omega.{arith}
 use lib.Dec.{eqb}
 use lib.ListN.{length, getD}
-use borrow.Author.Tests.{eqb-true, eq-eqb, ne-eqb}
+use borrow.Author.Tests.{eqb-false, eq-eqb, ne-eqb}
 use Rattle.edition.specs.declared.Search.{Search}
 use Rattle.edition.specs.declared.Entry.{Entry}
 use Rattle.edition.specs.Limits.{longest, noLink}
 use Rattle.edition.specs.Entries.{firstEnd, secondEnd, rootState, bridgeState, blank}
-use Rattle.rows.specs.Lists.{has, differ}
-use Rattle.rows.proofs.Tests.{clash, either, and-none}
+use Rattle.rows.specs.Lists.{differ}
+use Rattle.rows.proofs.Tests.{clash, and-none}
 use Rattle.network.specs.declared.Link.{Link}
 use Rattle.network.specs.Network.{Net, netOf, linkIn, linksIn, inService}
 use Rattle.network.proofs.Whole.{length-held}
-use Rattle.tree.specs.Tree.{treeOf, route, under}
-use Rattle.tree.proofs.Ways.{Home, home-up, route-step, under-root, above-root}
+use Rattle.tree.specs.Tree.{treeOf, under}
+use Rattle.tree.proofs.Ways.{Home, home-up, under-root, short-of, over-next}
 use Rattle.survey.specs.declared.Known.{Known}
 use Rattle.survey.specs.Row.{knownAt}
 use Rattle.sound.proofs.Holding.{first-in, second-in}
@@ -48,26 +48,15 @@ module _ {g : Net} {survey : List ℕ} {x : ℕ} where
     node-home = home-up (treeOf g) (s .from) _ (homes (h .surveyed) _ (in-tree (h .surveyed) _ (h .low))) (h .carries .along .on)
 
     not-top : s .climb .node ≡ treeOf g .root → ⊥
-    not-top q =
-        n
-        (q ∙
-        sym
-        (above-root (treeOf g) x (subst (Home (treeOf g)) q node-home)
-        (subst (λ (v : ℕ). under (treeOf g) x v ≡ true) q (h .over))))
+    not-top = eqb-false _ _ (short-of (treeOf g) _ x node-home (h .over) n)
 
     pub rising-steps : Stepping g survey s
     unfolding treeOf
     rising-steps = record { surveyed = h .surveyed; carries = h .carries; low = h .low; below = not-top }
 
     module _ {r : Side} (step : Stepped g s r) where
-      goes-on : has x (route (treeOf g) (s .climb .node)) ≡ (eqb (s .climb .node) x || has x (route (treeOf g) (treeOf g .up (s .climb .node))))
-      unfolding has
-      goes-on = ap (has x) (route-step (treeOf g) _ node-home (ne-eqb _ _ not-top))
-
       still-over : under (treeOf g) x (r .climb .node) ≡ true
-      unfolding under
-      still-over =
-          either (eqb (s .climb .node) x) _ (sym goes-on ∙ h .over) (λ q. absurd (n (eqb-true _ x q))) (λ q m. rw (step .here) m)
+      still-over = rw (step .here) (over-next (treeOf g) _ x node-home (h .over) n)
 
       pub risen-more : {s₀ : Side} → Risen g survey x s₀ s → Risen g survey x s₀ r
       risen-more i =

@@ -17,7 +17,7 @@ use Rattle.network.specs.declared.Link.{Link}
 use Rattle.network.specs.Network.{Net, netOf, linkIn, linksIn, inService, otherEnd}
 use Rattle.network.specs.Records.{badParent}
 use Rattle.tree.specs.Tree.{treeOf, under}
-use Rattle.tree.proofs.Ways.{route-step}
+use Rattle.tree.proofs.Ways.{under-step}
 use Rattle.sound.specs.Surveyed.{Surveyed}
 use Rattle.sound.proofs.Sounds.{Sound}
 use Rattle.sound.proofs.Holding.{first-in, second-in, ends-differ, links-few, home}
@@ -51,9 +51,8 @@ module _ (g : Net) (s : Sound g) (e : ℕ) (there : e < g .links) where
 
   -- a node x but u has both u and its parent below it or none of them
   same-side : (u : ℕ) → u < g .nodes → g .parent u ≡ e → (x : ℕ) → eqb u x ≡ false → under (treeOf g) x u ≡ under (treeOf g) x (otherEnd (g .link e) u)
-  unfolding under has treeOf
-  same-side u l q x n =
-      ap (has x) (route-step (treeOf g) u (home g s u l) (off-top u l q)) ∙ rw (n, off-top u l q, q)
+  unfolding treeOf
+  same-side u l q x n = under-step (treeOf g) u x (home g s u l) (off-top u l q) ∙ rw (n, off-top u l q, q)
 
   own :
       (u : ℕ)
@@ -70,14 +69,14 @@ module _ (g : Net) (s : Sound g) (e : ℕ) (there : e < g .links) where
       go false c = rw (h x c, differ-same (under (treeOf g) x (g .link e .second)), and-none (inService (g .link e) && not (eqb e (g .parent x))))
 
   -- a tree link crosses nothing
-  own-first : g .parent (g .link e .first) ≡ e → (x : ℕ) → crosses (treeOf g) x e (g .link e) ≡ false
+  pub own-first : g .parent (g .link e .first) ≡ e → (x : ℕ) → crosses (treeOf g) x e (g .link e) ≡ false
   unfolding otherEnd
   own-first q =
       own (g .link e .first) q
       (λ x n. same-side (g .link e .first) (first-in g s e there) q x n
       ∙ rw (eq-eqb (g .link e .first) (g .link e .first) refl))
 
-  own-second : g .parent (g .link e .second) ≡ e → (x : ℕ) → crosses (treeOf g) x e (g .link e) ≡ false
+  pub own-second : g .parent (g .link e .second) ≡ e → (x : ℕ) → crosses (treeOf g) x e (g .link e) ≡ false
   unfolding otherEnd
   own-second q =
       own (g .link e .second) q

@@ -8,7 +8,7 @@ use native.Mathlib.Nat.{not-suc-le-zero}
 use native.Mathlib.Omega.{arith}
 use lib.Dec.{eqb}
 use lib.ListN.{length, length-append}
-use borrow.Author.Tests.{eqb-true}
+use borrow.Author.Tests.{eqb-true, ne-eqb}
 use Rattle.rows.specs.Lists.{has, upTo, total}
 use Rattle.rows.proofs.Tests.{clash, either, or-right}
 use Rattle.rows.proofs.Listed.{has-append, has-head, total-append, upTo-here, upTo-past, upTo-less}
@@ -253,3 +253,17 @@ module _ (t : Tree) where
   above-root x h e =
       let alone = route-root (t .root) h (borrow.Author.Tests.eq-eqb (t .root) (t .root) refl) in
       either (eqb (t .root) x) false (rw alone at e) (λ q. sym (eqb-true (t .root) x q)) (λ q c. clash c refl)
+
+  -- x is over a node that is not the root exactly where it is the node or over its parent
+  pub under-step : (u x : ℕ) → Home u → eqb u (t .root) ≡ false → under t x u ≡ (eqb u x || under t x (t .up u))
+  unfolding under has
+  under-step u x h e = ap (has x) (route-step u h e)
+
+  -- a node of T(x) that is not x is not the root, and its parent is in T(x)
+  pub short-of : (u x : ℕ) → Home u → under t x u ≡ true → (u ≡ x → ⊥) → eqb u (t .root) ≡ false
+  short-of u x h p n =
+      ne-eqb u (t .root)
+      (λ q. n (q ∙ sym (above-root x (subst Home q h) (subst (λ (v : ℕ). under t x v ≡ true) q p))))
+
+  pub over-next : (u x : ℕ) → Home u → under t x u ≡ true → (u ≡ x → ⊥) → under t x (t .up u) ≡ true
+  over-next u x h p n = rw (ne-eqb u x n) at (sym (under-step u x h (short-of u x h p n)) ∙ p)
