@@ -1,23 +1,12 @@
-// stack NETWORK..: prints how many bytes of stack each public call takes, in whole words of 8, as a table. The number is the
-// most over the networks, each lent as it is and in other ways, most of which are refused. A network is a file in the form that
-// network.h describes, and sound.
-//
-// A call runs on a stack of its own that was painted with one byte beforehand; the lowest byte that is no longer the paint says
-// how far down it wrote. It runs twice, on two paints, and the deeper reading counts: a byte that is the one paint is not the
-// other. A call's number is what a C function takes for it below its own return address: the arguments that go by the stack,
-// as gcc aligns them, the call's return address, and all below.
-//
-// Compiled with -fno-optimize-sibling-calls, so that each call is one, and linked with -z now, so that no function is looked up
-// on the painted stack.
+// stack NETWORK..: prints how many bytes of stack each public call takes, in whole words of 8, as a table; paint.h says how they
+// are measured. The number is the most over the networks, each lent as it is and in other ways, most of which are refused. A
+// network is a file in the form that network.h describes, and sound.
 #include "doeragyeol.h"
 #include "network.h"
+#include "paint.h"
 #include "painted.h"
 
-#include <stdlib.h>
-#include <string.h>
-#include <ucontext.h>
-
-enum { BLOCK = 512, SPACE = 1 << 18, PAINT = 0x5a, OTHER_PAINT = 0xa5, STEP = 8, KNOWN = 10000, SLACK = 64, SURVEY = 7 * NODES };
+enum { BLOCK = 512, SURVEY = 7 * NODES };
 
 // What a call is lent and given: a network, rows, a file and a block of it, nodes, and a change. Where room is 0, the rows
 // besides the network's have none.
@@ -32,15 +21,15 @@ struct lent {
     uint16_t number, used, link, mark, length;
 };
 
-typedef uint64_t call(struct lent *l);
-
 #define LINKS_LENT l->links, l->m * DOERAGYEOL_LINK_NUMBERS
-#define NET LINKS_LENT, l->parents, l->n, l->root, l->depth
+#define TREE LINKS_LENT, l->parents, l->n, l->root
+#define NET TREE, l->depth
 #define ROW(row) l->row, l->room * (sizeof l->row / sizeof *l->row)
 #define FRONT l->kind, l->number, l->used
 #define BYTES l->file + l->block, l->room * BLOCK
 #define STORED l->file, l->file_length, ROW(links), ROW(parents), ROW(entries)
 #define CHANGE l->link, l->mark, l->length
+#define DISTANCE l->told, l->room * DOERAGYEOL_DISTANCE
 #define LIST NET, l->start, l->failed, ROW(ordinary), ROW(detour)
 
 // The calls by layers: what each is called, the function, and what it is given.
@@ -92,7 +81,8 @@ typedef uint64_t call(struct lent *l);
     CALL("doeragyeol_read", doeragyeol_read, STORED, ROW(told))                                                  \
     CALL("doeragyeol_forward_sum", doeragyeol_forward_sum, LIST, ROW(told))                                      \
     CALL("doeragyeol_forward_incr", doeragyeol_forward_incr, LIST, ROW(told))                                    \
-    CALL("doeragyeol_forward_max", doeragyeol_forward_max, LIST, ROW(told))
+    CALL("doeragyeol_forward_max", doeragyeol_forward_max, LIST, ROW(told))                                      \
+    CALL("doeragyeol_distance", doeragyeol_distance, TREE, l->start, (uint16_t)l->z, DISTANCE)
 
 #define RUN(name, function, ...)                   \
     static uint64_t run_##function(struct lent *l) \
@@ -109,69 +99,16 @@ static const struct {
 
 enum { COUNT = sizeof calls / sizeof *calls };
 
-static void fail(const char *name, const char *what)
-{
-    fprintf(stderr, "stack: %s: %s\n", name, what);
-    exit(1);
-}
-
-static size_t larger(size_t a, size_t b)
-{
-    return a < b ? b : a;
-}
-
-// The stack that calls run on, the way back from it, and what runs there on what.
-static uint8_t space[SPACE] __attribute__((aligned(64)));
-static ucontext_t back;
-static call *running;
-static struct lent lent;
-static volatile uint64_t answer;
-
-static void run_it(void)
-{
-    answer = running(&lent);
-}
-
-// How far down a call writes, from the stack's upper end and by one paint.
-static size_t reading(call *run, const struct lent *given, uint8_t paint)
-{
-    ucontext_t own;
-    running = run;
-    lent = *given;
-    memset(space, paint, SPACE);
-    getcontext(&own);
-    own.uc_stack.ss_sp = space;
-    own.uc_stack.ss_size = SPACE;
-    own.uc_link = &back;
-    makecontext(&own, run_it, 0);
-    swapcontext(&back, &own);
-    size_t low = 0;
-    while (low < SPACE && space[low] == paint)
-        low++;
-    return SPACE - low / STEP * STEP;
-}
-
-// How far down a call writes. One that reaches the lower half could have gone past the end unseen.
+// How far down a call writes, lent the same on each paint.
 static size_t reach(call *run, const struct lent *given)
 {
-    size_t deep = larger(reading(run, given, PAINT), reading(run, given, OTHER_PAINT));
-    if (deep > SPACE / 2)
-        fail("a call", "it needs a larger stack");
+    static struct lent lent;
+    size_t deep = 0;
+    for (size_t i = 0; i < PAINTS; i++) {
+        lent = *given;
+        deep = larger(deep, reading(run, &lent, paints[i]));
+    }
     return deep;
-}
-
-// A call of nothing, whose reach is the harness's own, and one of a row.
-static uint64_t nothing(struct lent *l)
-{
-    return l->room;
-}
-
-static uint64_t known(struct lent *l)
-{
-    volatile uint8_t row[KNOWN];
-    for (size_t i = 0; i < KNOWN; i++)
-        row[i] = l->kind;
-    return row[0];
 }
 
 // Block i of the file is the one asked for.
@@ -347,11 +284,9 @@ static void load(const char *name, struct lent *given)
 int main(int count, char **words)
 {
     static struct lent given;
-    size_t most[COUNT] = {0}, none = reach(nothing, &given), row = reach(known, &given) - none;
+    size_t most[COUNT] = {0}, none = own_reach();
     if (count < 2)
         return 2;
-    if (row < KNOWN || row > KNOWN + SLACK)
-        fail("a known row", "it is not measured right");
     for (int i = 1; i < count; i++) {
         load(words[i], &given);
         measure(&given, most);

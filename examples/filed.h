@@ -8,6 +8,7 @@
 
 #include "doeragyeol.h"
 
+#include <signal.h>
 #include <stdio.h>
 
 /* Room for what any file has, and for one byte more, by which a longer file is seen. */
@@ -16,6 +17,12 @@ static uint16_t links[DOERAGYEOL_LINKS_ROW];
 static uint16_t parents[DOERAGYEOL_PARENTS_ROW];
 static uint64_t entries[DOERAGYEOL_ENTRIES_ROW];
 static uint64_t header[DOERAGYEOL_HEADER];
+
+/* Done first: a line that cannot be printed since nobody reads it any more is an error like others, and no end by a signal. */
+static void outlive_pipes(void)
+{
+    signal(SIGPIPE, SIG_IGN);
+}
 
 /* Reads a file, or its first bytes where it has more than any stored file. Answers 0 where it can be read. */
 static int read_file(const char *name, size_t *length)

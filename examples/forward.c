@@ -5,6 +5,7 @@
  * with 1; words that are not of this form, a file that cannot be read, or a line that cannot be printed, end with 2.
  */
 #include "filed.h"
+#include "words.h"
 
 #include <string.h>
 
@@ -35,22 +36,6 @@ static forwarder *forwarder_of(const char *name)
     return NULL;
 }
 
-/* The number that a word is; -1 where it is none, or too large for a node. */
-static long number_of(const char *word)
-{
-    long number = 0;
-    if (*word == '\0')
-        return -1;
-    for (; *word != '\0'; word++) {
-        if (*word < '0' || *word > '9')
-            return -1;
-        number = number * 10 + (*word - '0');
-        if (number > UINT16_MAX)
-            return -1;
-    }
-    return number;
-}
-
 static void print_way(void)
 {
     int is_detour = way[0] == DOERAGYEOL_DETOUR;
@@ -63,6 +48,7 @@ static void print_way(void)
 
 int main(int count, char **words)
 {
+    outlive_pipes();
     forwarder *forward = count == 5 ? forwarder_of(words[4]) : NULL;
     long start = count == 5 ? number_of(words[2]) : -1;
     long failed = count == 5 ? number_of(words[3]) : -1;

@@ -57,6 +57,7 @@ static void print_node(size_t node, const struct measure *by)
 
 int main(int count, char **words)
 {
+    outlive_pipes();
     const struct measure *by = count == 3 ? measure_of(words[2]) : NULL;
     if (by == NULL) {
         fprintf(stderr, "usage: load FILE sum|incr|max\n");

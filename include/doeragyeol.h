@@ -1,10 +1,11 @@
 /*
  * Doeragyeol: an archive of backup routes whose every answer is proved.
  *
- * Nine functions over numbers and lent rows, and the version. A row is a pointer and then how many numbers it has. Link with
+ * Ten functions over numbers and lent rows, and the version. A row is a pointer and then how many numbers it has. Link with
  * libdoeragyeol.a (x86-64 Linux), which `rt staticlib doeragyeol` proves and writes to target/staticlib/. The library
- * calls nothing but memset, keeps nothing between calls, has no heap, and takes less than 100 KiB of stack. Calls on
- * rows of their own may run at the same time.
+ * calls nothing but memset, keeps nothing between calls, has no heap, and takes less than 100 KiB of stack, at most 2 KiB
+ * for doeragyeol_distance (measured, not proved). Calls on rows of their own may run at the same time, and calls that only
+ * read a row may share it.
  *
  * What each function promises is proved in crates/doeragyeol: for every content of the lent rows it ends, touches
  * nothing but them, and answers and leaves in them what is said here. What C must see to, since nothing can check it:
@@ -14,9 +15,9 @@
  * - a row that is written overlaps no other row of the call, and nobody else writes to a row during the call.
  *
  * Each function answers one word: 0, or the first refusal in the order that it names, whose number and place the two
- * functions below take out. A row that is lent for values (sizes, told, size, header, way) and is too short for them is
- * refused by 10, in 10's place in the order: behind 1 to 9, and before 15 to 17 and 24. On a refusal nothing lent is
- * changed. Otherwise a row gets what is said at its beginning, and the rest of it stays.
+ * functions below take out. A row that is lent for values (sizes, told, size, header, way, distance) and is too short for
+ * them is refused by 10, in 10's place in the order: behind 1 to 9, and before 15 to 17 and 24. On a refusal nothing lent
+ * is changed. Otherwise a row gets what is said at its beginning, and the rest of it stays.
  *
  * The rows:
  *
@@ -45,9 +46,9 @@ extern "C" {
  * another version does not link. Where the linker drops unused sections (--gc-sections) this takes a compiler that knows
  * `retain` (GCC 11, Clang 13). The header of version 2 had no `retain`: compile its callers anew.
  */
-#define DOERAGYEOL_VERSION 4
+#define DOERAGYEOL_VERSION 5
 
-uint32_t doeragyeol_version_4(void);
+uint32_t doeragyeol_version_5(void);
 
 #if defined(__GNUC__)
 #if defined(__has_attribute)
@@ -55,7 +56,7 @@ uint32_t doeragyeol_version_4(void);
 __attribute__((retain))
 #endif
 #endif
-__attribute__((used)) static uint32_t (*const doeragyeol_made_for)(void) = doeragyeol_version_4;
+__attribute__((used)) static uint32_t (*const doeragyeol_made_for)(void) = doeragyeol_version_5;
 #endif
 
 /* The limits, and how long the rows are that hold all that there can be. */
@@ -79,6 +80,7 @@ __attribute__((used)) static uint32_t (*const doeragyeol_made_for)(void) = doera
 #define DOERAGYEOL_SIZE 1
 #define DOERAGYEOL_HEADER 4
 #define DOERAGYEOL_WAY 3
+#define DOERAGYEOL_DISTANCE 1
 
 /* Which row of the forwarder applies, the first value of way. */
 #define DOERAGYEOL_ORDINARY 0
@@ -232,6 +234,19 @@ uint32_t doeragyeol_forward_max(const uint16_t *links, size_t links_length, cons
                                 size_t parents_length, uint16_t root, uint16_t depth, uint16_t start, uint16_t failed,
                                 uint16_t *ordinary, size_t ordinary_length, uint16_t *detour, size_t detour_length,
                                 uint64_t *way, size_t way_length);
+
+/*
+ * The length of the tree path between two nodes: from one of them up to where their two routes meet, and down to the other.
+ * distance (room for 1) gets it. For a task with little stack: it takes at most DOERAGYEOL_DISTANCE_STACK bytes with
+ * everything that it calls, the arguments that are passed on the stack and the return address among them, on the longest
+ * path too (measured, not proved). It asks the tree alone, so there is no depth, and it does not check the network: a node
+ * has a route where its parent links lead to the root. On a network that doeragyeol_check takes every node has one, and no
+ * distance is over 33,488,385. Every number of the row of parents counts as a node, so give its length as the number of
+ * nodes. Refused by 1, by 8 at from, by 8 at to (a node that does not exist has no route), and by 10.
+ */
+#define DOERAGYEOL_DISTANCE_STACK 2048
+uint32_t doeragyeol_distance(const uint16_t *links, size_t links_length, const uint16_t *parents, size_t parents_length,
+                             uint16_t root, uint16_t from, uint16_t to, uint64_t *distance, size_t distance_length);
 
 #ifdef __cplusplus
 }

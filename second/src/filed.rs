@@ -1,10 +1,12 @@
-//! The network that a stored file holds, and the way to the root on it.
+//! The network that a stored file holds, the way to the root on it, and the
+//! length of a tree path.
 
 use crate::forward::{forward, Asked, Kind, Told};
 use crate::limits::*;
 use crate::network::Rows;
 use crate::reader::{read, Said};
 use crate::refusal::{refuse, Refusal, Why};
+use crate::routes::tree_distance;
 
 /// What an accepted file holds: its numbers, its network, its entries.
 pub struct Filed {
@@ -39,10 +41,17 @@ pub fn filed(file: &[u8]) -> Result<Filed, Refusal> {
 /// The line of a way on the network of a file: which way it is, its nodes and
 /// its length; or of a refusal, the file's or the forwarder's.
 pub fn way_line(file: &[u8], asked: &Asked) -> String {
-    match way_words(file, asked) {
-        Ok(words) => words + "\n",
-        Err(refusal) => refusal.words() + "\n",
-    }
+    line(way_words(file, asked))
+}
+
+/// The line of a tree path between two nodes on the network of a file: its
+/// length; or of a refusal, the file's or the tree's.
+pub fn distance_line(file: &[u8], from: u16, to: u16) -> String {
+    line(distance_words(file, from, to))
+}
+
+fn line(words: Result<String, Refusal>) -> String {
+    words.unwrap_or_else(|refusal| refusal.words()) + "\n"
 }
 
 fn way_words(file: &[u8], asked: &Asked) -> Result<String, Refusal> {
@@ -64,4 +73,10 @@ fn way_words(file: &[u8], asked: &Asked) -> Result<String, Refusal> {
         kind.word(),
         nodes.join(" ")
     ))
+}
+
+fn distance_words(file: &[u8], from: u16, to: u16) -> Result<String, Refusal> {
+    let Filed { rows, .. } = filed(file)?;
+    let length = tree_distance(&rows.lend(), from, to)?;
+    Ok(format!("distance {length}"))
 }

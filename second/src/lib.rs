@@ -3,7 +3,8 @@
 //! It is written from the requirements' definitions and shares nothing with the
 //! proved library. It makes cases for the probe and series of changes, says
 //! what must be printed for them, lists stored files, tells the way to the root
-//! on the networks that they hold, and writes sample files.
+//! and the length of a tree path on the networks that they hold, and writes
+//! sample files.
 
 pub mod answers;
 pub mod block;

@@ -3,37 +3,50 @@
 use second::answers::{answers, first_difference};
 use second::cases::{input, kept, largest, ops, series};
 use second::file::write;
-use second::filed::way_line;
+use second::filed::{distance_line, way_line};
 use second::forward::{Asked, NAMED_MEASURES};
 use second::harbour::harbour;
 use second::limits::{LONGEST_LISTED, WHOLE};
 use second::listing::listing;
 use second::samples::samples;
 use second::series::lines;
-use std::env::args;
-use std::io::{stdin, stdout, Error, ErrorKind, Read, Result, Write};
+use std::env::args_os;
+use std::ffi::OsString;
+use std::io::{stderr, stdin, stdout, Error, ErrorKind, Read, Result, Write};
 use std::path::Path;
 use std::process::ExitCode;
 
 const USAGE: &str =
     "usage: second list | harbour | kept | largest [OP] | expect | compare PRINTED | cases OPS SEED COUNT | files DIR SEED COUNT
        second series SEED COUNT | series-expect
-       second forward START FAILED sum|incr|max";
+       second forward START FAILED sum|incr|max
+       second distance FROM TO";
 
 fn main() -> ExitCode {
-    let words: Vec<String> = args().skip(1).collect();
-    let words: Vec<&str> = words.iter().map(String::as_str).collect();
-    match run(&words) {
+    let words: Vec<OsString> = args_os().skip(1).collect();
+    let words: Option<Vec<&str>> = words.iter().map(|word| word.to_str()).collect();
+    match words.and_then(|words| run(&words)) {
         Some(Ok(())) => ExitCode::SUCCESS,
         Some(Err(error)) => {
-            eprintln!("second: {error}");
+            say(&format!("second: {error}"));
             ExitCode::FAILURE
         }
         None => {
-            eprintln!("{USAGE}");
+            say(USAGE);
             ExitCode::from(2)
         }
     }
+}
+
+/// Says something on standard error, where that can be written.
+fn say(what: &str) {
+    let _ = writeln!(stderr(), "{what}");
+}
+
+/// The number that a word of digits is.
+fn number(word: &str) -> Option<u16> {
+    let digits = word.bytes().all(|byte| byte.is_ascii_digit());
+    word.parse().ok().filter(|_| digits)
 }
 
 /// Runs a command; none where the words are no command.
@@ -43,6 +56,10 @@ fn run(words: &[&str]) -> Option<Result<()>> {
         ["forward", start, failed, measure] => {
             let asked = asked(start, failed, measure)?;
             Some(answer_input(|file| way_line(file, &asked)))
+        }
+        ["distance", from, to] => {
+            let (from, to) = (number(from)?, number(to)?);
+            Some(answer_input(|file| distance_line(file, from, to)))
         }
         ["expect"] => Some(answer_input(answers)),
         ["compare", printed] => Some(compare(Path::new(printed))),
@@ -71,8 +88,8 @@ fn run(words: &[&str]) -> Option<Result<()>> {
 fn asked(start: &str, failed: &str, measure: &str) -> Option<Asked> {
     let named = NAMED_MEASURES.iter().find(|named| named.0 == measure)?;
     Some(Asked {
-        start: start.parse().ok()?,
-        failed: failed.parse().ok()?,
+        start: number(start)?,
+        failed: number(failed)?,
         measure: named.1,
     })
 }

@@ -124,6 +124,36 @@ pub fn wild_rows(rng: &mut Rng) -> Rows {
     }
 }
 
+/// Rows of many nodes that need not be a network: each node names its own link,
+/// which leads to one of the four below it, and that of node 0 to the root, which
+/// may be no node; at times one node names another link.
+pub fn long_rows(rng: &mut Rng) -> Rows {
+    let n = rng.from_to(100, MOST_NODES);
+    let root = rng.pick(&[0, n as u16, NO_NODE]);
+    let mut parents: Vec<u16> = (0..n as u16).collect();
+    let mut links = Vec::new();
+    for x in 0..n {
+        let other = match x {
+            0 => root,
+            _ => (x - 1 - rng.below(x.min(4))) as u16,
+        };
+        let mut ends = [x as u16, other];
+        if rng.chance(50) {
+            ends.reverse();
+        }
+        links.extend([ends[0], ends[1], rng.word(), rng.pick(&[1, 1, 0, 2])]);
+    }
+    if rng.chance(30) {
+        let (x, e) = (rng.below(n), rng.below(n) as u16);
+        parents[x] = rng.pick(&[NO_LINK, e]);
+    }
+    Rows {
+        parents,
+        links,
+        root,
+    }
+}
+
 /// A depth: the whole search, a small one, the largest, at times a wrong one.
 pub fn depth(rng: &mut Rng) -> u16 {
     match rng.below(20) {

@@ -83,7 +83,7 @@ fn own_verdicts(op: u16) -> BTreeSet<u16> {
 fn every_refusal_of_every_own_op_is_kept() {
     for op in 101..=105 {
         let (cases, all) = (kept_of(op), fixed(op));
-        assert!((40..=80).contains(&cases.len()), "{op}: {}", cases.len());
+        assert!((40..=90).contains(&cases.len()), "{op}: {}", cases.len());
         assert_eq!(verdicts(&cases), own_verdicts(op), "{op}");
         assert_eq!(verdicts(&all), own_verdicts(op), "{op}");
         assert_eq!(all[..cases.len()], cases);
@@ -276,6 +276,54 @@ fn has_swap(case: &Case, x: usize) -> bool {
         };
         r[3] == 1 && Some(e) != own && (case.depth == 65_535 || hops <= case.depth as usize)
     })
+}
+
+/// What two nodes with routes are to each other.
+fn pair(case: &Case) -> &'static str {
+    let [a, b, _] = case.abc.map(usize::from);
+    let root = case.root as usize;
+    match [hops_to(case, a, b), hops_to(case, b, a)] {
+        _ if a == b => "equal",
+        _ if a == root => "the first is the root",
+        _ if b == root => "the second is the root",
+        [Some(_), _] => "the second is above",
+        [_, Some(_)] => "the first is above",
+        _ => "neither is above",
+    }
+}
+
+/// Why a number may have no route.
+fn loss(case: &Case, x: usize) -> &'static str {
+    match x {
+        _ if x >= case.parents.len() => "no node",
+        _ if x == case.root as usize => "",
+        _ if leads_round(case, x) => "on a cycle",
+        _ if hops_to(case, x, case.root as usize).is_none() => "below a cycle",
+        _ => "",
+    }
+}
+
+/// Among the kept cases of ops 102 and 103 two nodes are everything that they
+/// can be to each other. Each loss is met of the first alone and of the second
+/// alone; no node and a cycle also of both.
+#[test]
+fn every_pair_is_among_the_kept() {
+    for op in [102, 103] {
+        let cases = kept_of(op);
+        let of = |number: u16| cases.iter().filter(move |case| verdict(case).0 == number);
+        let pairs: BTreeSet<&str> = of(0).map(pair).collect();
+        assert_eq!(pairs.len(), 6, "{pairs:?}");
+        let losses: BTreeSet<[&str; 2]> = of(8)
+            .map(|case| [0, 1].map(|i| loss(case, case.abc[i].into())))
+            .collect();
+        for why in ["no node", "on a cycle", "below a cycle"] {
+            assert!(losses.contains(&[why, ""]), "{why}");
+            assert!(losses.contains(&["", why]), "{why}");
+        }
+        for why in ["no node", "on a cycle"] {
+            assert!(losses.contains(&[why, why]), "{why}");
+        }
+    }
 }
 
 /// A cause for the forwarder to refuse, beside those of a network.

@@ -1,14 +1,17 @@
 //! Routes, tree distances and meeting places: on sound networks against the
 //! plain definitions and the laws of a tree, on rows that are no network
-//! against a climb that is counted out.
+//! against a climb that is counted out, and on kept cases by hand and against
+//! wrong readings.
 
 mod common;
 #[path = "common/plain.rs"]
 mod plain;
 
-use common::told;
+use common::{harbour, harbour_file, told};
+use second::answers::answer;
 use second::cases::{chosen, fixed};
 use second::faults::{Faulty, NETWORK_FAULTS};
+use second::filed::distance_line;
 use second::network::Rows;
 use second::probe::Case;
 use second::random;
@@ -296,6 +299,209 @@ fn the_kept_routes_tell_wrong_readings_apart() {
     assert!(!same(untouched_is_the_second, |n| n));
     assert!(!same(ends_are_nodes, |n| n));
     assert!(!same(parts_are_links, |n| n));
+}
+
+/// What must be printed for the kept case of op 102 that asks two nodes of
+/// these rows.
+fn kept_distance(rows: &Rows, u: u16, z: u16) -> String {
+    let cases = chosen(102);
+    let asks = |case: &&Case| case.abc[..2] == [u, z] && case.rows() == *rows;
+    answer(cases.iter().find(asks).expect("it is kept"))
+}
+
+fn ok(length: u64) -> String {
+    format!("distance ok {length}\n")
+}
+
+fn lost(node: u16) -> String {
+    format!("distance refused 8 {node}\n")
+}
+
+/// The tree of Harbour: node 1 is 2 from the root, 2 and 3 are 3 and 1 from
+/// node 1, and 4 is 9 from the root. All pairs are kept: equal nodes, one above
+/// the other, the root with each.
+#[test]
+fn the_kept_distances_of_harbour() {
+    let right = [
+        [0, 2, 5, 3, 9],
+        [2, 0, 3, 1, 11],
+        [5, 3, 0, 4, 14],
+        [3, 1, 4, 0, 12],
+        [9, 11, 14, 12, 0],
+    ];
+    for (u, row) in (0..).zip(right) {
+        for (z, length) in (0..).zip(row) {
+            assert_eq!(kept_distance(&harbour(), u, z), ok(length), "{u} {z}");
+        }
+    }
+}
+
+/// No node first, second, both; then the first is told.
+#[test]
+fn the_kept_distances_of_no_node() {
+    let none = 65_535;
+    for (u, z, place) in [
+        (5, 0, 5),
+        (none, 1, none),
+        (0, 5, 5),
+        (1, none, none),
+        (5, none, 5),
+        (none, 5, none),
+    ] {
+        assert_eq!(kept_distance(&harbour(), u, z), lost(place), "{u} {z}");
+    }
+}
+
+/// Nodes 2 and 3 name links to each other, 4 hangs below 3 and 5 below 4. Node
+/// 1 is beside them, 3 from the root.
+#[test]
+fn the_kept_distances_at_a_cycle() {
+    let links = [[0, 1], [1, 2], [2, 3], [3, 4], [4, 5], [2, 3]];
+    let links = links.map(|[a, b]| [a, b, 3]);
+    let rows = common::rows(&[65_535, 0, 2, 5, 3, 4], &links, 0);
+    for (u, z, place) in [
+        (2, 1, 2),
+        (1, 3, 3),
+        (2, 3, 2),
+        (3, 3, 3),
+        (4, 0, 4),
+        (1, 5, 5),
+    ] {
+        assert_eq!(kept_distance(&rows, u, z), lost(place), "{u} {z}");
+    }
+    assert_eq!(kept_distance(&rows, 1, 0), ok(3));
+}
+
+/// 512 nodes in a row, joined by links of 65,535, and a root on it.
+fn longest_path(root: u16) -> Rows {
+    let links: Vec<[u16; 3]> = (0..511).map(|e| [e, e + 1, 65_535]).collect();
+    let before = 0..root;
+    let behind = root..511;
+    let parents: Vec<u16> = before.chain([65_535]).chain(behind).collect();
+    common::rows(&parents, &links, root)
+}
+
+/// From end to end, with the root at an end and in the middle: 511 times
+/// 65,535.
+#[test]
+fn the_kept_distances_of_the_longest_path() {
+    let right = ok(33_488_385);
+    assert_eq!(kept_distance(&longest_path(0), 511, 0), right);
+    assert_eq!(kept_distance(&longest_path(256), 0, 511), right);
+}
+
+/// Two chains of 256 nodes with links of 65,535, each to a root that is no
+/// node: 512 times 65,535, more than in any network.
+#[test]
+fn the_kept_distances_of_two_chains() {
+    let above = |x: u16| if x % 256 == 0 { 600 } else { x - 1 };
+    let links: Vec<[u16; 3]> = (0..512).map(|x| [x, above(x), 65_535]).collect();
+    let parents: Vec<u16> = (0..512).collect();
+    let rows = common::rows(&parents, &links, 600);
+    assert_eq!(kept_distance(&rows, 255, 511), ok(33_553_920));
+    assert_eq!(kept_distance(&rows, 511, 255), ok(33_553_920));
+}
+
+/// Which of two nodes climb, by the hops that each had to the root and those
+/// that it has climbed.
+type Who = fn([i64; 2], [i64; 2]) -> [bool; 2];
+
+/// The lengths of the steps that two nodes with routes climb until they are
+/// one; none where they are not within the steps of two routes.
+fn climbed(who: Who, rows: &Rows, mut here: [usize; 2]) -> Option<Vec<u64>> {
+    let hops = here.map(|u| counted_route(rows, u).unwrap().1.len() as i64 - 1);
+    let (mut done, mut lengths) = ([0; 2], Vec::new());
+    for _ in 0..2 * rows.parents.len() {
+        if here[0] == here[1] {
+            return Some(lengths);
+        }
+        let turns = who(hops, done);
+        for i in (0..2).filter(|&i| turns[i]) {
+            let (above, w) = step(rows, here[i]);
+            here[i] = above;
+            done[i] += 1;
+            lengths.push(w);
+        }
+    }
+    None
+}
+
+/// The hops that are left to each.
+fn left(hops: [i64; 2], done: [i64; 2]) -> [i64; 2] {
+    [hops[0] - done[0], hops[1] - done[1]]
+}
+
+fn farther_climbs(hops: [i64; 2], done: [i64; 2]) -> [bool; 2] {
+    let [one, other] = left(hops, done);
+    [one > other, one <= other]
+}
+
+/// Wrong: the one that is fewer hops from the root climbs.
+fn nearer_climbs(hops: [i64; 2], done: [i64; 2]) -> [bool; 2] {
+    let [one, other] = left(hops, done);
+    [one < other, one >= other]
+}
+
+/// Wrong: what the first has climbed is not taken off its hops.
+fn first_not_taken_off(hops: [i64; 2], done: [i64; 2]) -> [bool; 2] {
+    farther_climbs(hops, [0, done[1]])
+}
+
+/// Wrong: what the second has climbed is not taken off its hops.
+fn second_not_taken_off(hops: [i64; 2], done: [i64; 2]) -> [bool; 2] {
+    farther_climbs(hops, [done[0], 0])
+}
+
+/// Wrong: both climb, whatever their hops.
+fn both_climb(_: [i64; 2], _: [i64; 2]) -> [bool; 2] {
+    [true; 2]
+}
+
+fn all(lengths: &[u64]) -> u64 {
+    lengths.iter().sum()
+}
+
+/// Wrong: the last step has no length.
+fn all_but_the_last(lengths: &[u64]) -> u64 {
+    lengths.iter().rev().skip(1).sum()
+}
+
+/// The kept distances by the right reading and by wrong ones.
+#[test]
+fn the_kept_distances_tell_wrong_readings_apart() {
+    let asked = |case: Case| {
+        let (rows, [u, z, _]) = (case.rows(), case.abc.map(usize::from));
+        let right = first_meeting(&rows, u, z).ok()?.1;
+        Some((rows, [u, z], right))
+    };
+    let cases: Vec<_> = chosen(102).into_iter().filter_map(asked).collect();
+    assert!(cases.len() > 30, "{}", cases.len());
+    let same = |who: Who, length: fn(&[u64]) -> u64| {
+        cases.iter().all(|(rows, pair, right)| {
+            let lengths = climbed(who, rows, *pair);
+            lengths.map(|lengths| length(&lengths)) == Some(*right)
+        })
+    };
+    assert!(same(farther_climbs, all));
+    assert!(!same(nearer_climbs, all));
+    assert!(!same(first_not_taken_off, all));
+    assert!(!same(second_not_taken_off, all));
+    assert!(!same(both_climb, all));
+    assert!(!same(farther_climbs, all_but_the_last));
+}
+
+/// The lines of Harbour's file, and of a file that is refused.
+#[test]
+fn lines_of_a_file() {
+    let file = harbour_file();
+    let line = |u, z| distance_line(&file, u, z);
+    assert_eq!(line(3, 2), "distance 4\n");
+    assert_eq!(line(2, 4), "distance 14\n");
+    assert_eq!(line(3, 3), "distance 0\n");
+    assert_eq!(line(5, 65_535), "refused 8 5\n");
+    assert_eq!(line(0, 65_535), "refused 8 65535\n");
+    assert_eq!(distance_line(&file[1..], 3, 2), "refused 20 0\n");
+    assert_eq!(distance_line(&[0; 32_768], 5, 5), "refused 20 0\n");
 }
 
 /// Links past the limit of a network are links here.

@@ -29,10 +29,9 @@ use Rattle.sound.specs.Surveyed.{Surveyed}
 use Rattle.sound.proofs.Sounds.{taken}
 use Rattle.sound.proofs.Holding.{nodes-few, root-in, first-in, second-in, link-path}
 use Rattle.table.specs.Table.{isAsked, freshAt, tableVerdict}
-use Rattle.table.specs.Work.{Moved}
 use Rattle.table.proofs.Whole.{table-room}
 use Rattle.change.specs.Change.{breaks, changeVerdict, setLink, mended, changed}
-use Rattle.change.specs.Work.{flip}
+use Rattle.change.specs.Work.{Moved, flip}
 use Rattle.change.proofs.Staying.{Allowed, allowed, kept-tree, still-sound}
 use Rattle.change.proofs.Mending.{onWay, madeAt, mended-rows}
 use Rattle.change.proofs.Flipping.{turned-twice}

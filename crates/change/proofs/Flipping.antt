@@ -16,15 +16,14 @@ use Rattle.network.specs.Network.{Net, netOf}
 use Rattle.tree.specs.Tree.{Tree, treeOf, route, under}
 use Rattle.tree.proofs.Ways.{Home, under-self}
 use Rattle.tree.proofs.Bounded.{under-below}
-use Rattle.tree.proofs.Climbing.{on-parent, shorter}
+use Rattle.tree.proofs.Climbing.{on-parent, shorter, passed-none, passed-more, passed-all}
 use Rattle.tree.proofs.InRows.{treeIn, at-root, off-root}
 use Rattle.sound.specs.Sound.{netVerdict}
 use Rattle.sound.proofs.Sounds.{Sound, sound}
 use Rattle.sound.proofs.Holding.{home, up-in}
 use Rattle.table.specs.Table.{isAsked}
-use Rattle.table.specs.Work.{Moved}
-use Rattle.table.proofs.Moving.{moved-none, moved-more, passed-none, passed-more, passed-all}
-use Rattle.change.specs.Work.{flip, flippedAt}
+use Rattle.change.specs.Work.{Moved, flip, flippedAt}
+use Rattle.change.proofs.Moving.{moved-none, moved-more}
 
 pub flipped : (c : ℕ) (row : List ℕ) (v : ℕ) → v ≡ flip (getD row c 0) → set row c v ≡ flippedAt c row
 unfolding flippedAt

@@ -1,6 +1,7 @@
 pub mod Alike
 pub mod Applying
 pub mod Checking
+pub mod Moving
 pub mod Flipping
 pub mod Mending
 pub mod Orders

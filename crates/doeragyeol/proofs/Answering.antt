@@ -30,15 +30,20 @@ use Rattle.archive.specs.Reader.{headRead, Rows, readVerdict, readAnswer, rowsR
 use Rattle.archive.proofs.AcceptedRows.{unlent-refused}
 use Rattle.doeragyeol.specs.Word.{wordOf, answered, told}
 use Rattle.doeragyeol.specs.Calls.{lentRows, checkSaid, sizesRow, mapSaid, wordsRow, openRow, writeSaid, fileRow, lengthRow, readSaid, rowsLeft}
+use Rattle.tree.specs.declared.Answer.{Answer}
+use Rattle.tree.specs.declared.Answer.the-variants as tree
+use Rattle.tree.specs.Tree.{treeOf, apart}
+use Rattle.tree.specs.Answers.{waysVerdict, apartAnswer}
 use Rattle.forward.specs.declared.Ask.{Ask}
 use Rattle.forward.specs.declared.Way.{Way}
 use Rattle.forward.specs.declared.Applies.{Applies}
 use Rattle.forward.specs.declared.Applies.the-variants.{Ordinary, Detour, Neither}
 use Rattle.forward.specs.Forward.{cutOff}
 use Rattle.forward.specs.Answers.{askVerdict, forwardVerdict, way, applies, ordinaryRow, detourRow}
-use Rattle.doeragyeol.specs.Calls.{headerRow, forwardSaid, ordinaryLeft, detourLeft, wayValues, wayRow}
+use Rattle.doeragyeol.specs.Calls.{headerRow, forwardSaid, ordinaryLeft, detourLeft, wayValues, wayRow, distanceSaid, apartRow}
 use Rattle.doeragyeol.proofs.Telling.{room-lacks, room-there, rooms-one, ends-refused, sound-is, sound-not}
 use Rattle.doeragyeol.proofs.Telling.{map-is, map-not, write-is, write-not, read-is, read-not, ordinary-is, detour-is, neither-is}
+use Rattle.doeragyeol.proofs.Telling.{number-is, number-not, room-after}
 
 -- the word and the row of values, by the verdict
 module _ (v : Verdict) where
@@ -275,3 +280,34 @@ module _ (g : Net) (a : Ask) (o d row : List ℕ) where
         let one : ordinaryRow g a o d ≡ o = rw no in
         let two : detourRow g a o d ≡ d = rw no in
         (kept .0, e ∙ (one ∙ kept .1), f ∙ (two ∙ kept .2), kept .3)
+
+-- the tree distance
+module _ (g : Net) (u z : ℕ) (row : List ℕ) (a : Answer) (q : a ≡ apartAnswer g u z) where
+  abbrev pub Distance : ℕ → List ℕ → Type 0
+  Distance w row′ = (w ≡ wordOf (distanceSaid g u z row)) × (row′ ≡ apartRow g u z row)
+
+  distance-kept : (w : ℕ) (r : Refusal) → w ≡ wordOf (Refused r) → distanceSaid g u z row ≡ Refused r → Distance w row
+  unfolding apartRow told
+  distance-kept w r p t = (told-word _ w r t p, kept _ _ _ r t)
+
+  pub distance-refused : (r : Refusal) → a ≡ tree.Not r → (w : ℕ) → w ≡ wordOf (Refused r) → Distance w row
+  unfolding apartAnswer distanceSaid
+  distance-refused r t w p =
+      distance-kept w r p (room-after (waysVerdict g u z) 1 row r (number-not (waysVerdict g u z) (apart (treeOf g) u z) r (sym q ∙ t)))
+
+  module _ (d : ℕ) (t : a ≡ tree.Is d) where
+    far : (waysVerdict g u z ≡ Taken) × (d ≡ apart (treeOf g) u z)
+    unfolding apartAnswer
+    far = number-is (waysVerdict g u z) (apart (treeOf g) u z) d (sym q ∙ t)
+
+    pub distance-short : length row < 1 → (w : ℕ) → w ≡ wordOf (refused NoRoom 0) → Distance w row
+    unfolding distanceSaid firstly
+    distance-short l w p =
+        distance-kept w _ p
+        (room-lacks (waysVerdict g u z) 1 row l ∙ ap (λ (v : Verdict). firstly (v ∷ refused NoRoom 0 ∷ [])) (far .0))
+
+    pub distance-told : 1 ≤ length row → (row′ : List ℕ) → row′ ≡ answered (d ∷ []) row → Distance 0 row′
+    unfolding distanceSaid apartRow told
+    distance-told l row′ p =
+        let taken : distanceSaid g u z row ≡ Taken = room-there (waysVerdict g u z) 1 row l ∙ far .0 in
+        (done-word _ taken, p ∙ (ap (λ (k : ℕ). answered (k ∷ []) row) (far .1) ∙ got _ _ _ taken))

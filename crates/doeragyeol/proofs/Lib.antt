@@ -5,3 +5,4 @@ pub mod Words
 pub mod Places
 pub mod Outcomes
 pub mod Numbers
+pub mod NoDepth

@@ -8,6 +8,7 @@ use Rattle.edition.specs.Refusals.{numberOf}
 use Rattle.rows.specs.Lists.{has}
 use Rattle.rows.proofs.Numbered.{Gives, if-gives, none-gives, first-gives, gives-left}
 use Rattle.network.specs.Network.{Net}
+use Rattle.tree.proofs.Numbers.{ways-give}
 use Rattle.sound.specs.Sound.{netVerdict}
 use Rattle.sound.proofs.Numbers.{oneToNine, net-gives}
 use Rattle.table.proofs.Numbers.{oneToTen}
@@ -19,7 +20,7 @@ use Rattle.archive.specs.Writer.{writeVerdict}
 use Rattle.archive.specs.Reader.{Rows}
 use Rattle.archive.proofs.Numbers.{ofFiles, write-gives, read-gives}
 use Rattle.doeragyeol.specs.Word.{thenRoom}
-use Rattle.doeragyeol.specs.Calls.{checkSaid, mapSaid, writeSaid, readSaid, forwardSaid}
+use Rattle.doeragyeol.specs.Calls.{checkSaid, mapSaid, writeSaid, readSaid, forwardSaid, distanceSaid}
 
 then-gives : (v : Verdict) (n : ℕ) (row : List ℕ) → Gives oneToTen v → Gives oneToTen (thenRoom v n row)
 unfolding thenRoom numberOf has
@@ -47,3 +48,10 @@ read-said-gives file rows row = read-gives file _
 pub forward-said-gives : (g : Net) (a : Ask) (ordinary detour row : List ℕ) → Gives ofForwarder (forwardSaid g a ordinary detour row)
 unfolding forwardSaid
 forward-said-gives g a ordinary detour row = forward-gives g a _ detour
+
+-- the tree distance: no number but 1, 8 and 10
+pub distance-said-gives : (g : Net) (u z : ℕ) (row : List ℕ) → Gives (1 ∷ 8 ∷ 10 ∷ []) (distanceSaid g u z row)
+unfolding distanceSaid thenRoom numberOf has
+distance-said-gives g u z row =
+    first-gives _ _ _ (gives-left (1 ∷ 8 ∷ []) (10 ∷ []) _ (ways-give g u z))
+    (first-gives _ _ _ (if-gives (1 ∷ 8 ∷ 10 ∷ []) _ NoRoom 0 refl) (none-gives (1 ∷ 8 ∷ 10 ∷ [])))

@@ -4,6 +4,7 @@ use mathlib.Core.List.{List}
 use Rattle.change.specs.Change.{changeVerdict, Lent, changed}
 use Rattle.doeragyeol.specs.Calls.{lentNet, lentRows, checkSaid, sizesRow, mapSaid, wordsRow, openRow, writeSaid, fileRow, lengthRow}
 use Rattle.doeragyeol.specs.Calls.{readSaid, rowsLeft, headerRow, forwardSaid, ordinaryLeft, detourLeft, wayRow}
+use Rattle.doeragyeol.specs.Calls.{treeNet, distanceSaid, apartRow}
 use Rattle.doeragyeol.specs.Word.{version, wordOf}
 use Rattle.edition.specs.declared.Change.{Change}
 use Rattle.edition.specs.declared.Measure.the-variants.{Sum, Incr, Max}
@@ -12,9 +13,9 @@ use Rattle.table.specs.Table.{tableVerdict, tableRow}
 use lib.ListN.{length}
 use Rattle.edition.proofs.Only.{One, one}
 
--- `doeragyeol::doeragyeol_version_4`
-pub one-doeragyeol-version-4 : One (version)
-one-doeragyeol-version-4 = one _
+-- `doeragyeol::doeragyeol_version_5`
+pub one-doeragyeol-version-5 : One (version)
+one-doeragyeol-version-5 = one _
 
 -- `doeragyeol::doeragyeol_check`
 pub one-doeragyeol-check :
@@ -121,3 +122,11 @@ pub one-doeragyeol-forward-max :
     × One (detourLeft g a o d way′)
     × One (wayRow g a o d way′)
 one-doeragyeol-forward-max links parents root depth start failed ordinary detour way = (one _, one _, one _, one _)
+
+-- `doeragyeol::doeragyeol_distance`
+pub one-doeragyeol-distance :
+    (links parents : List ℕ) (root from to : ℕ) (distance : List ℕ) →
+    let g = treeNet links parents root in
+    One (wordOf (distanceSaid g from to distance))
+    × One (apartRow g from to distance)
+one-doeragyeol-distance links parents root from to distance = (one _, one _)

@@ -25,6 +25,7 @@ use Rattle.rows.proofs.Refusing.{head-taken, rest-taken, if-taken}
 use Rattle.network.specs.Network.{Net}
 use Rattle.network.specs.Records.{sizeVerdict}
 use Rattle.network.proofs.Sizes.{sized-nodes, sized-links}
+use Rattle.tree.specs.Answers.{wayVerdict, waysVerdict}
 use Rattle.sound.specs.Sound.{recordVerdict, netVerdict}
 use Rattle.table.specs.Table.{tableVerdict}
 use Rattle.map.specs.Map.{mapVerdict}
@@ -38,7 +39,7 @@ use Rattle.archive.specs.Writer.{writeVerdict}
 use Rattle.archive.specs.Reader.{nodesRead, linksRead, searchRead, netRead, Rows, blockRefusal, headVerdict, restVerdict, readVerdict}
 use Rattle.archive.proofs.Reading.{nodes-read, links-read}
 use Rattle.doeragyeol.specs.Word.{placeMost, wordOf, thenRoom}
-use Rattle.doeragyeol.specs.Calls.{checkSaid, mapSaid, writeSaid, readSaid, forwardSaid}
+use Rattle.doeragyeol.specs.Calls.{checkSaid, mapSaid, writeSaid, readSaid, forwardSaid, distanceSaid}
 use Rattle.doeragyeol.proofs.Words.{place-back}
 
 -- a verdict that has no place, or one that a word holds
@@ -206,3 +207,13 @@ forward-placed g a ordinary detour row =
     (λ f. next _ _
     (if-placed _ NoSwap (a .failed) (λ q. omega (arith, sized-nodes memoryLimits _ _ _ (head-taken _ _ t), ask-fits _ _ a _ _ f .failed-low)))
     (λ e. end)))
+
+way-placed : (g : Net) (u : ℕ) → u ≤ placeMost → Placed (wayVerdict g u)
+unfolding wayVerdict
+way-placed g u l = next _ _ (at-zero _ NodeCount) (λ a. next _ _ (if-placed _ NoRoute u (λ q. l)) (λ b. end))
+
+-- the tree distance: 8 is at one of the two nodes asked, and they are 16-bit numbers
+pub distance-placed : (g : Net) (u z : ℕ) (row : List ℕ) → u ≤ placeMost → z ≤ placeMost → Placed (distanceSaid g u z row)
+unfolding distanceSaid waysVerdict
+distance-placed g u z row l k =
+    then-placed (waysVerdict g u z) 1 row (next _ _ (way-placed g u l) (λ a. next _ _ (way-placed g z k) (λ b. end)))

@@ -28,6 +28,8 @@ use Rattle.archive.specs.Reader.{readIf}
 use Rattle.forward.specs.declared.Way.{Way}
 use Rattle.forward.specs.declared.Applies.the-variants.{Ordinary, Detour, Neither}
 use Rattle.forward.specs.Answers.{appliesIf}
+use Rattle.tree.specs.declared.Answer.the-variants as tree
+use Rattle.tree.specs.Answers.{answerIf}
 use Rattle.doeragyeol.specs.Word.{wordOf, thenRoom}
 
 -- a check with nothing behind it
@@ -45,6 +47,11 @@ module _ (said : Verdict) (n : ℕ) (row : List ℕ) where
   pub room-lacks : length row < n → thenRoom said n row ≡ firstly (said ∷ refused NoRoom 0 ∷ [])
   unfolding thenRoom refuseIf
   room-lacks l = ap (λ (b : Bool). firstly (said ∷ refuseIf b NoRoom 0 ∷ [])) (lt-ltb (length row) n l)
+
+  -- what is refused before is refused by that
+  pub room-after : (r : Refusal) → said ≡ Refused r → thenRoom said n row ≡ Refused r
+  unfolding thenRoom firstly
+  room-after r q = rw q
 
 -- where another room was asked before, 10 is 10
 pub rooms-one : (v : Verdict) (b : Bool) → firstly (firstly (v ∷ refuseIf b NoRoom 0 ∷ []) ∷ refused NoRoom 0 ∷ []) ≡ firstly (v ∷ refused NoRoom 0 ∷ [])
@@ -118,3 +125,12 @@ pub neither-is : (v : Verdict) (b : Bool) (t : Way) (r : Refusal) → appliesIf 
 neither-is Taken true t r e = let z : _≡_ {A = ℕ} 0 1 = cc in absurd (omega arith)
 neither-is Taken false t r e = let z : _≡_ {A = ℕ} 0 1 = cc in absurd (omega arith)
 neither-is (Refused q) b t r e = cc
+
+-- the tree distance
+pub number-is : (v : Verdict) (d e : ℕ) → answerIf v d ≡ tree.Is e → (v ≡ Taken) × (e ≡ d)
+number-is Taken d e q = (refl, cc)
+number-is (Refused r) d e q = let z : _≡_ {A = ℕ} 0 1 = cc in absurd (omega arith)
+
+pub number-not : (v : Verdict) (d : ℕ) (r : Refusal) → answerIf v d ≡ tree.Not r → v ≡ Refused r
+number-not Taken d r q = let z : _≡_ {A = ℕ} 0 1 = cc in absurd (omega arith)
+number-not (Refused s) d r q = cc

@@ -8,6 +8,8 @@ use lib.ListN.{length}
 use Rattle.edition.specs.declared.Verdict.{Verdict}
 use Rattle.edition.specs.Refusals.{ifTaken}
 use Rattle.network.specs.Network.{Net, netOf}
+use Rattle.tree.specs.Tree.{treeOf, apart}
+use Rattle.tree.specs.Answers.{waysVerdict}
 use Rattle.sound.specs.Sound.{netVerdict}
 use Rattle.map.specs.Map.{mapVerdict, mapRow, countUnprotected, lowest}
 use Rattle.forward.specs.declared.Ask.{Ask}
@@ -21,6 +23,10 @@ use Rattle.doeragyeol.specs.Word.{thenRoom, told}
 -- The network of lent rows, with root and depth as two numbers.
 abbrev pub lentNet : List ℕ → List ℕ → ℕ → ℕ → Net
 lentNet links parents root depth = netOf links parents (record { root = root; depth = depth })
+
+-- The network of lent rows and a root. The tree distance looks at no depth (`no-depth`), and 0 stands in its place.
+abbrev pub treeNet : List ℕ → List ℕ → ℕ → Net
+treeNet links parents root = lentNet links parents root 0
 
 -- The three rows lent to the reader.
 abbrev pub lentRows : List ℕ → List ℕ → List ℕ → Rows
@@ -94,3 +100,11 @@ wayValues (Neither r) = []
 -- What the row lent for its three values then holds.
 unfoldable pub wayRow : Net → Ask → List ℕ → List ℕ → List ℕ → List ℕ
 wayRow g a ordinary detour row = told (forwardSaid g a ordinary detour row) (wayValues (applies g a ordinary detour)) row
+
+-- The tree distance of u and z: 1, 8 at u, 8 at z, then room for one value. It is t(u,z).
+unfoldable pub distanceSaid : Net → ℕ → ℕ → List ℕ → Verdict
+distanceSaid g u z row = thenRoom (waysVerdict g u z) 1 row
+
+-- What the row lent for its one value then holds.
+unfoldable pub apartRow : Net → ℕ → ℕ → List ℕ → List ℕ
+apartRow g u z row = told (distanceSaid g u z row) (apart (treeOf g) u z ∷ []) row

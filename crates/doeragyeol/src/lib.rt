@@ -1,4 +1,4 @@
-// The library for C: nine functions over numbers and lent rows, each of which answers one word, 0 or the refusal; and the
+// The library for C: ten functions over numbers and lent rows, each of which answers one word, 0 or the refusal; and the
 // version.
 ghost use mathlib.Core.Path.{_≡_};
 ghost use mathlib.Core.List.{[], _∷_};
@@ -18,6 +18,7 @@ ghost use Rattle.forward.specs.declared.Ask.{Ask};
 ghost use Rattle.doeragyeol.specs.Word.{version, placeMost, wordOf, answered};
 ghost use Rattle.doeragyeol.specs.Calls.{lentNet, lentRows, checkSaid, sizesRow, mapSaid, wordsRow, openRow, writeSaid, fileRow, lengthRow};
 ghost use Rattle.doeragyeol.specs.Calls.{readSaid, rowsLeft, headerRow, forwardSaid, ordinaryLeft, detourLeft, wayRow};
+ghost use Rattle.doeragyeol.specs.Calls.{treeNet, distanceSaid, apartRow};
 use archive::Header;
 use archive::ReadAnswer;
 use archive::WriteAnswer;
@@ -31,9 +32,10 @@ use forward::Applies;
 use forward::Ask;
 use map::MapAnswer;
 use sound::Checked;
+use tree::Answer;
 
 // The version of the interface: what the header declares. A landing that changes that raises it, here and in the name below.
-const VERSION: u32 = 4;
+const VERSION: u32 = 5;
 
 // The word of a call that is not refused.
 const DONE: u32 = 0;
@@ -51,6 +53,8 @@ const SIZE: usize = 1;
 const HEADER: usize = 4;
 
 const WAY: usize = 3;
+
+const DISTANCE: usize = 1;
 
 // Which row of the forwarder applies.
 const ORDINARY: u64 = 0;
@@ -151,7 +155,7 @@ fn put_header(row: &mut [u64], head: Header)
 
 // The version of the interface. The name ends with it, so that a caller made for another version does not link.
 #[no_mangle]
-pub extern "C" fn doeragyeol_version_4() -> u32
+pub extern "C" fn doeragyeol_version_5() -> u32
     ensures { λ r. ⌜ r ≡ version ⌝ }
 {
     VERSION
@@ -473,4 +477,32 @@ pub extern "C" fn doeragyeol_forward_max(
         detour,
         way,
     )
+}
+
+// The length of the tree path from one node to another. `distance` gets it. The tree has no depth.
+#[no_mangle]
+pub extern "C" fn doeragyeol_distance(
+    links: &[u16],
+    parents: &[u16],
+    root: u16,
+    from: u16,
+    to: u16,
+    distance: &mut [u64],
+) -> u32
+    ensures { λ r.
+        let g = treeNet (now (links .entry)) (now (parents .entry)) root in
+        ⌜ (r ≡ wordOf (distanceSaid g from to (now (distance .entry))))
+        × (now (distance .exit) ≡ apartRow g from to (now (distance .entry))) ⌝ }
+{
+    let search = Search { root, depth: 0 };
+    match tree::tree_distance(links, parents, search, from as usize, to as usize) {
+        Answer::Is(length) => {
+            if distance.len() < DISTANCE {
+                return no_room_word();
+            }
+            put_one(distance, length);
+            DONE
+        }
+        Answer::Not(why) => refusal_word(why),
+    }
 }

@@ -15,9 +15,9 @@ use Rattle.rows.proofs.Listed.{total-bound}
 use Rattle.network.specs.Network.{netOf}
 use Rattle.tree.specs.declared.Climb.{Climb}
 use Rattle.tree.specs.Tree.{Tree, route, under, hops, wayUp}
-use Rattle.tree.specs.Work.{Onto}
 use Rattle.tree.proofs.Ways.{Home, way, way-head, home-up, hops-cut, above-root, under-cut, under-root, route-length}
 use Rattle.tree.proofs.InRows.{treeIn, root-in, few}
+use Rattle.tree.proofs.Onto.{Onto}
 use Rattle.forward.specs.Work.{Node, Reached}
 use Rattle.forward.proofs.Nodes.{homed, size-few, top}
 

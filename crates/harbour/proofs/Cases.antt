@@ -1,11 +1,11 @@
--- P1 to P12 of the Harbour case and the lists of the forwarder hold: one theorem that the checker computes. Assumes nothing.
+-- P1 to P12 of the Harbour case, the lists of the forwarder and the pairs of nodes hold: one theorem that the checker computes. Assumes nothing.
 use mathlib.Core.Path.{_≡_, refl}
 use mathlib.Core.Bool.{true}
 use mathlib.Core.List.{List, [], _∷_}
 use Rattle.rows.proofs.Tests.{and-left, and-right}
 use Rattle.rows.proofs.Listed.{same-equal}
 use Rattle.harbour.specs.Harbour.{Case, _gives_, links, parents, harbour, alone, rootEntry, bridge, one, two, three, right, nine}
-use Rattle.harbour.specs.Harbour.{linksTurned, turned, oneTurned, threeTurned}
+use Rattle.harbour.specs.Harbour.{linksTurned, turned, oneTurned, threeTurned, round, numbersOf}
 use Rattle.harbour.specs.Harbour.{linksSeven, linksNine, twoSeven, oneNine, twoNine, room, listRoom, listSaid, answer, cases, holds}
 use Rattle.edition.specs.Refusals.{numberOf, said}
 use Rattle.rows.specs.Count.{sumTo, maxTo, someTo, rowsTo, onlyIf, rowWith}
@@ -14,6 +14,7 @@ use Rattle.rows.specs.Lists.{has, upTo, firstOf, total, same}
 use Rattle.network.specs.Network.{linkRow, linkFrom, linkIn, putLink, netOf, isParent, inService, touches, otherEnd}
 use Rattle.network.specs.Records.{badNodes, badLinks, badRoot, badDepth, sizeVerdict, badEnds, badMark, unfit, badParent}
 use Rattle.tree.specs.Tree.{treeOf, climb, route, arrives, hasRoute, dist, under, hops, wayUp, meet, apart, onPath, inside}
+use Rattle.tree.specs.Answers.{lost, wayVerdict, waysVerdict, meetAnswer, apartAnswer}
 use Rattle.sound.specs.Sound.{noRoute, keepsShort, short, notShort, recordVerdict, netVerdict, checked}
 use Rattle.swap.specs.Swap.{innerEnd, outerEnd, lowerMark, crosses, within, candidate, newDist, cost, costOf, before, best}
 use Rattle.swap.specs.Entry.{crossed, hasCandidate, state, priced, swapOf, entry}
@@ -35,7 +36,8 @@ unfolding numberOf entryRow sumTo maxTo someTo rowsTo onlyIf rowWith orHere firs
     freshRow unprotected word mapOf countUnprotected lowest mapVerdict mapRow isParent breaks changeVerdict setLink mendedAt mended
     changed links parents harbour linksTurned turned oneTurned threeTurned alone rootEntry bridge one two three right nine linksSeven linksNine twoSeven
     oneNine twoNine cutOff swapLink lowerEnd upperEnd around stepsUp stepsAround detour listed steps lengthOf askVerdict stranded forwardVerdict way
-    applies rowOf ordinaryRow detourRow usedPart handed listRoom listSaid said room answer cases holds
+    applies rowOf ordinaryRow detourRow usedPart handed
+    lost wayVerdict waysVerdict meetAnswer apartAnswer round numbersOf listRoom listSaid said room answer cases holds
 harbour-cases = refl
 
 -- each case as an equation, to be cited by what the promises say

@@ -1,4 +1,3 @@
 pub mod Cases
 pub mod Accepted
-pub mod Numbers
 pub mod Series

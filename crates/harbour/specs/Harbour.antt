@@ -1,10 +1,11 @@
--- The Harbour case of SCOPE: what is asked in P1 to P12 and of the forwarder, and the numbers that it gives. Assumes nothing.
+-- The Harbour case of SCOPE: what is asked in P1 to P12, of the forwarder and of two nodes, and the numbers that it gives. Assumes nothing.
 use mathlib.Core.Bool.{Bool, true, cond, _&&_}
 use mathlib.Core.List.{List, [], _∷_, _++_}
 use Prim.Native.Nat.{ℕ}
 use lib.ListN.{replicate}
 use Rattle.entries.specs.Row.{entryRow}
 use Rattle.edition.specs.declared.Change.{Change}
+use Rattle.edition.specs.declared.Verdict.the-variants.{Refused}
 use Rattle.edition.specs.declared.Measure.{Measure}
 use Rattle.edition.specs.declared.Measure.the-variants.{Sum, Incr, Max}
 use Rattle.edition.specs.Limits.{noLink, noNode, wholeSearch, mapWords, routeRoom}
@@ -13,6 +14,9 @@ use Rattle.rows.specs.Count.{rowsTo}
 use Rattle.rows.specs.Lists.{same}
 use Rattle.network.specs.Network.{Net, netOf}
 use Rattle.tree.specs.Tree.{treeOf, meet, apart}
+use Rattle.tree.specs.declared.Answer.{Answer}
+use Rattle.tree.specs.declared.Answer.the-variants.{Is, Not}
+use Rattle.tree.specs.Answers.{meetAnswer, apartAnswer}
 use Rattle.swap.specs.Swap.{newDist}
 use Rattle.swap.specs.Entry.{entry}
 use Rattle.table.specs.Table.{tableVerdict, tableRow}
@@ -55,6 +59,10 @@ linksTurned =
 -- The Harbour network with these links, at the whole search.
 unfoldable pub turned : Net
 turned = netOf linksTurned parents (harbour wholeSearch .search)
+
+-- Harbour with a cycle: link 5 is the parent link of both its ends, nodes 2 and 3.
+unfoldable pub round : Net
+round = netOf links (noLink ∷ 0 ∷ 5 ∷ 5 ∷ 6 ∷ []) (harbour wholeSearch .search)
 
 -- One node and no link.
 unfoldable pub alone : Net
@@ -146,6 +154,8 @@ pub data Ask : Type 0 where
   -- at the whole search, N of such a start, where the routes of it and of the swap link's lower end first meet, and the tree length
   -- from the failed node to there
   partsOf : ℕ → ℕ → Measure → Ask
+  -- where the routes of two nodes meet, and how far the two are apart: of each 0, 0 and the number, or a refusal's number and place
+  pairOf : Net → ℕ → ℕ → Ask
 
 -- A row of nines for the entries of a network.
 unfoldable pub room : Net → List ℕ
@@ -158,6 +168,11 @@ listRoom = replicate routeRoom 9
 -- What the forwarder says of a list that it hands back; nothing on a refusal.
 unfoldable pub listSaid : Net → Question → List ℕ
 listSaid g a = ifTaken (forwardVerdict g a listRoom listRoom) (cond (cutOff g a) 1 0 ∷ way g a .length ∷ []) []
+
+-- What an answer of the tree says: 0, 0 and its number, or the refusal's number and place.
+unfoldable pub numbersOf : Answer → List ℕ
+numbersOf (Is d) = 0 ∷ 0 ∷ d ∷ []
+numbersOf (Not r) = said (Refused r)
 
 -- What the definitions answer.
 unfoldable pub answer : Ask → List ℕ
@@ -177,13 +192,14 @@ answer (partsOf u x s) =
     let a : Question = record { start = u; failed = x; measure = s } in
     let c = meet (treeOf g) u (lowerEnd g a) in
     newDist (treeOf g) x (g .link (swapLink g a)) u ∷ c ∷ apart (treeOf g) x c ∷ []
+answer (pairOf g u z) = numbersOf (meetAnswer g u z) ++ numbersOf (apartAnswer g u z)
 
 -- A question and its numbers: SCOPE's, or worked out by hand.
 pub data Case : Type 0 where
   _gives_ : Ask → List ℕ → Case
 
 infix 5 _gives_
--- P1 to P12, where the marks differ between measures, and lists of the forwarder.
+-- P1 to P12, where the marks differ between measures, lists of the forwarder, and pairs of nodes.
 unfoldable pub cases : List Case
 cases =
     -- P1 to P4
@@ -232,7 +248,22 @@ cases =
     -- 15 and 16
     (listOf wholeSearch 5 0 Sum gives (15 ∷ 0 ∷ [])) ∷
     (listOf wholeSearch 3 0 Sum gives (16 ∷ 0 ∷ [])) ∷
-    (listOf wholeSearch 3 5 Sum gives (16 ∷ 0 ∷ [])) ∷ []
+    (listOf wholeSearch 3 5 Sum gives (16 ∷ 0 ∷ [])) ∷
+    -- request 2026-03: beside each other, in either order; meeting at the root; one above the other; equal; the root
+    (pairOf (harbour wholeSearch) 2 3 gives (0 ∷ 0 ∷ 1 ∷ 0 ∷ 0 ∷ 4 ∷ [])) ∷
+    (pairOf (harbour wholeSearch) 3 2 gives (0 ∷ 0 ∷ 1 ∷ 0 ∷ 0 ∷ 4 ∷ [])) ∷
+    (pairOf (harbour wholeSearch) 2 4 gives (0 ∷ 0 ∷ 0 ∷ 0 ∷ 0 ∷ 14 ∷ [])) ∷
+    (pairOf (harbour wholeSearch) 3 1 gives (0 ∷ 0 ∷ 1 ∷ 0 ∷ 0 ∷ 1 ∷ [])) ∷
+    (pairOf (harbour wholeSearch) 1 3 gives (0 ∷ 0 ∷ 1 ∷ 0 ∷ 0 ∷ 1 ∷ [])) ∷
+    (pairOf (harbour wholeSearch) 3 3 gives (0 ∷ 0 ∷ 3 ∷ 0 ∷ 0 ∷ 0 ∷ [])) ∷
+    (pairOf (harbour wholeSearch) 3 0 gives (0 ∷ 0 ∷ 0 ∷ 0 ∷ 0 ∷ 3 ∷ [])) ∷
+    (pairOf (harbour wholeSearch) 0 3 gives (0 ∷ 0 ∷ 0 ∷ 0 ∷ 0 ∷ 3 ∷ [])) ∷
+    -- 8 at the first, and at the second: no node, and a cycle; who is not on the cycle is as far as before
+    (pairOf (harbour wholeSearch) 5 6 gives (8 ∷ 5 ∷ 8 ∷ 5 ∷ [])) ∷
+    (pairOf (harbour wholeSearch) 3 5 gives (8 ∷ 5 ∷ 8 ∷ 5 ∷ [])) ∷
+    (pairOf round 2 3 gives (8 ∷ 2 ∷ 8 ∷ 2 ∷ [])) ∷
+    (pairOf round 1 3 gives (8 ∷ 3 ∷ 8 ∷ 3 ∷ [])) ∷
+    (pairOf round 1 4 gives (0 ∷ 0 ∷ 0 ∷ 0 ∷ 0 ∷ 11 ∷ [])) ∷ []
 
 -- Does every case hold?
 unfoldable pub holds : List Case → Bool

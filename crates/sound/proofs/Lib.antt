@@ -7,3 +7,4 @@ pub mod Numbers
 pub mod Outcomes
 pub mod Plain
 pub mod Surveying
+pub mod Distances

@@ -8,7 +8,6 @@ pub mod TwoSides
 pub mod Ranks
 pub mod Joining
 pub mod Offering
-pub mod Moving
 pub mod Linking
 pub mod Skipping
 pub mod Searching

@@ -1,23 +1,25 @@
 -- One link offered to every node that it crosses, by two climbs. Assumes nothing.
-use mathlib.Core.Path.{_≡_, refl, sym, subst, ap, ap₂, _∙_}
+use mathlib.Core.Path.{_≡_, refl, sym, subst, ap, _∙_}
 use mathlib.Core.Bool.{Bool, true, false, cond, not, _&&_, _||_}
 use mathlib.Core.List.{List}
 use Prim.Native.Nat.{ℕ, suc, _+_, _-_, _/_, _<_, _≤_}
 use native.Mathlib.Omega.{arith}
 use lib.Dec.{eqb}
 use lib.ListN.{length, getD}
-use borrow.Author.Tests.{eqb-true, ne-eqb}
+use borrow.Author.Tests.{eqb-true, eqb-false, ne-eqb}
 use Rattle.edition.specs.Limits.{nodeLimit}
 use Rattle.edition.specs.Entries.{firstEnd, secondEnd}
 use Rattle.edition.specs.declared.Search.{Search}
 use Rattle.rows.specs.Lists.{has, upTo, differ}
-use Rattle.rows.proofs.Tests.{clash, either, not-so, and-none, or-swap, or-false}
+use Rattle.rows.proofs.Tests.{clash, either, not-so, and-none, or-swap}
 use Rattle.rows.proofs.Listed.{upTo-out}
 use Rattle.network.specs.declared.Link.{Link}
 use Rattle.network.specs.Network.{Net, inService, touches}
 use Rattle.tree.specs.Tree.{Tree, treeOf, route, under}
-use Rattle.tree.proofs.Ways.{Home, under-cut, under-root}
+use Rattle.tree.proofs.Ways.{Home}
 use Rattle.tree.proofs.Bounded.{under-below}
+use Rattle.tree.proofs.Climbing.{passed-none, passed-more}
+use Rattle.tree.proofs.TwoClimbs.{TwoClimbs, climbs-start, climbs-turn, climbs-off, climbs-below, climbs-next, not-passed}
 use Rattle.survey.specs.Row.{knownAt}
 use Rattle.sound.specs.Surveyed.{Surveyed}
 use Rattle.sound.proofs.Sounds.{Sound}
@@ -27,7 +29,6 @@ use Rattle.table.proofs.Prefixes.{entry-still}
 use Rattle.table.specs.declared.Side.{Side}
 use Rattle.table.specs.Table.{isAsked}
 use Rattle.table.specs.Work.{Entries, Carries, Crossing, Stepping, Stepped, Offering, want, OfferedAt, Spare, Climbing, Linked, rankStep, rank, Ranked}
-use Rattle.table.proofs.Moving.{passed-none, passed-more}
 use Rattle.table.proofs.Offering.{entries-same}
 use Rattle.table.proofs.Surveys.{fine, size-is, homes, closed, small, count-is, count-few}
 use Rattle.table.proofs.Sides.{step-rises, step-few}
@@ -113,18 +114,14 @@ module _ (t : Tree) where
 abbrev behind : Tree → Side → ℕ → Bool
 behind t a v = has v (upTo (a .climb .node) (route t (a .from)))
 
--- a climb that has passed no node above where the other began
-record Apart (t : Tree) (a b : Side) : Type 0 where
-  carries : Carries t (a .from) a
-  free : (v : ℕ) → behind t a v ≡ true → under t v (b .from) ≡ false
-
 -- two climbs from the ends of a spare link: the nodes passed have gone on from e links to one more
 pub record Between (g : Net) (survey asked : List ℕ) (e k : ℕ) (row₀ : List ℕ) (a b : Side) (row : List ℕ) : Type 0 where
   surveyed : Surveyed g survey
   spare : Spare g e k
   ends : Ends (g .link e) (a .from) (a .lower) (b .from) (b .lower)
-  one : Apart (treeOf g) a b
-  two : Apart (treeOf g) b a
+  one : Carries (treeOf g) (a .from) a
+  two : Carries (treeOf g) (b .from) b
+  climbs : TwoClimbs (treeOf g) (a .from) (b .from) (a .climb .node) (b .climb .node)
   pub size : length row ≡ length row₀
   rows :
       (before : List ℕ)
@@ -168,11 +165,17 @@ module _ {g : Net} {search : Search} {asked survey ranks row : List ℕ} {e k : 
   sv : Surveyed g survey
   sv = h .searching .surveyed
 
+  a-home : Home (treeOf g) (g .link e .first)
+  a-home = home g (fine sv) _ (first-in g (fine sv) e (h .spare .there))
+
+  b-home : Home (treeOf g) (g .link e .second)
+  b-home = home g (fine sv) _ (second-in g (fine sv) e (h .spare .there))
+
   a-none : (v : ℕ) → behind (treeOf g) a v ≡ false
-  a-none = none-behind _ _ a (h .starting .one) (home g (fine sv) _ (first-in g (fine sv) e (h .spare .there))) (h .starting .one-at)
+  a-none = none-behind _ _ a (h .starting .one) a-home (h .starting .one-at)
 
   b-none : (v : ℕ) → behind (treeOf g) b v ≡ false
-  b-none = none-behind _ _ b (h .starting .two) (home g (fine sv) _ (second-in g (fine sv) e (h .spare .there))) (h .starting .two-at)
+  b-none = none-behind _ _ b (h .starting .two) b-home (h .starting .two-at)
 
   pub between-start : Between g survey asked e k row a b row
   between-start =
@@ -180,8 +183,11 @@ module _ {g : Net} {search : Search} {asked survey ranks row : List ℕ} {e k : 
         surveyed = sv;
         spare = h .spare;
         ends = rw (h .starting .one .from-is, h .starting .one-mark, h .starting .two .from-is, h .starting .two-mark) forth;
-        one = record { carries = own _ _ a (h .starting .one); free = λ v m. clash m (a-none v) };
-        two = record { carries = own _ _ b (h .starting .two); free = λ v m. clash m (b-none v) };
+        one = own _ _ a (h .starting .one);
+        two = own _ _ b (h .starting .two);
+        climbs =
+            rw (h .starting .one .from-is, h .starting .one-at, h .starting .two .from-is, h .starting .two-at)
+            (climbs-start (treeOf g) a-home b-home);
         size = refl;
         rows = λ before i. entries-same _ _ _ before row (λ v l. rw (a-none v, b-none v)) i;
       }
@@ -197,6 +203,7 @@ module _ {g : Net} {survey asked : List ℕ} {e k : ℕ} {row₀ : List ℕ} whe
           ends = ends-turn (i .ends);
           one = i .two;
           two = i .one;
+          climbs = climbs-turn (treeOf g) (i .climbs);
           size = i .size;
           rows = λ before h. entries-same _ _ _ before row (λ v l. rw (or-swap (behind (treeOf g) a v) (behind (treeOf g) b v))) (i .rows before h);
         }
@@ -208,7 +215,7 @@ module _ {g : Net} {survey asked : List ℕ} {e k : ℕ} {row₀ : List ℕ} whe
     from-home = homes (i .surveyed) (a .from) from-in
 
     node-on : under (treeOf g) (a .climb .node) (a .from) ≡ true
-    node-on = i .one .carries .along .on
+    node-on = i .climbs .one
 
     node-in : a .climb .node < treeOf g .size
     node-in = under-below (treeOf g) (closed (i .surveyed)) (a .from) (a .climb .node) from-home from-in node-on
@@ -233,20 +240,12 @@ module _ {g : Net} {survey asked : List ℕ} {e k : ℕ} {row₀ : List ℕ} whe
     y-is = rank-at (between-turn i) r ye
 
     -- where both have the same rank, every node asked for that the link crosses was passed
-    ahead-of : (v : ℕ) → (behind (treeOf g) a v || behind (treeOf g) b v) ≡ false
-        → (under (treeOf g) v (a .from) ≡ under (treeOf g) v (a .climb .node)) × (under (treeOf g) v (b .from) ≡ under (treeOf g) v (b .climb .node))
-    ahead-of v c =
-        let z = or-false (behind (treeOf g) a v) (behind (treeOf g) b v) c in (
-          under-cut (treeOf g) (a .from) (a .climb .node) v (from-home i) (node-on i) ∙ rw (z .0),
-          under-cut (treeOf g) (b .from) (b .climb .node) v (from-home (between-turn i)) (node-on (between-turn i)) ∙ rw (z .1),
-        )
-
     no-longer :
         x ≡ y
         → (v : ℕ) → isAsked asked v ≡ true → (behind (treeOf g) a v || behind (treeOf g) b v) ≡ false
         → differ (under (treeOf g) v (a .from)) (under (treeOf g) v (b .from)) ≡ false
     no-longer met v o c =
-        let z = ahead-of v c in
+        let z = not-passed (treeOf g) (from-home i) (from-home (between-turn i)) (i .climbs) v c in
         rw (z .0, z .1, rank-same (i .surveyed) asked _ _ (node-in i) (node-in (between-turn i)) (sym x-is ∙ met ∙ y-is) v o)
         (differ-same (under (treeOf g) v (b .climb .node)))
 
@@ -285,16 +284,13 @@ module _ {g : Net} {survey asked : List ℕ} {e k : ℕ} {row₀ : List ℕ} whe
     i = turn .between
 
     not-behind : behind (treeOf g) b (a .climb .node) ≡ false
-    not-behind = not-so _ (λ q. clash (node-on i) (i .two .free _ q))
+    not-behind = not-so _ (λ q. clash (node-on i) (i .climbs .two-free _ q))
 
     off : under (treeOf g) (a .climb .node) (b .from) ≡ false
-    off = under-cut (treeOf g) _ (b .climb .node) _ (from-home (between-turn i)) (node-on (between-turn i)) ∙ ap₂ _||_ not-behind (turn .not-over)
-
-    below-root : a .climb .node ≡ treeOf g .root → ⊥
-    below-root q = clash (under-root (treeOf g) _ (from-home (between-turn i))) (subst (λ (v : ℕ). under (treeOf g) v (b .from) ≡ false) q off)
+    off = climbs-off (treeOf g) (from-home i) (from-home (between-turn i)) (i .climbs) (turn .not-over)
 
     off-root : eqb (a .climb .node) (treeOf g .root) ≡ false
-    off-root = ne-eqb (a .climb .node) (treeOf g .root) below-root
+    off-root = climbs-below (treeOf g) (from-home i) (from-home (between-turn i)) (i .climbs) (turn .not-over)
 
     crossing : Crossing g e a k
     unfolding treeOf
@@ -311,7 +307,7 @@ module _ {g : Net} {survey asked : List ℕ} {e k : ℕ} {row₀ : List ℕ} whe
 
     pub stepping : Stepping g survey a
     unfolding treeOf
-    stepping = record { surveyed = i .surveyed; carries = i .one .carries; low = from-in i; below = below-root }
+    stepping = record { surveyed = i .surveyed; carries = i .one; low = from-in i; below = eqb-false _ _ off-root }
 
     pub offering :
         {search : Search} {ranks : List ℕ} {a₀ b₀ : Side}
@@ -332,11 +328,6 @@ module _ {g : Net} {survey asked : List ℕ} {e k : ℕ} {row₀ : List ℕ} whe
       behind-more : (v : ℕ) → behind (treeOf g) a′ v ≡ (behind (treeOf g) a v || eqb (a .climb .node) v)
       behind-more v = rw (step .here, step .from-is) (passed-more (treeOf g) (a .from) (from-home i) (a .climb .node) (node-on i) off-root v)
 
-      fresh : (v : ℕ) → (behind (treeOf g) a v || eqb (a .climb .node) v) ≡ true → under (treeOf g) v (b .from) ≡ false
-      fresh v m =
-          either _ _ m (λ x. i .one .free v x)
-          (λ x y. subst (λ (w : ℕ). under (treeOf g) w (b .from) ≡ false) (eqb-true (a .climb .node) v y) off)
-
       pub between-more :
           {row′ : List ℕ}
           → OfferedAt g (g .nodes) asked e (a .climb .node) row row′ → length row′ ≡ length row
@@ -346,8 +337,9 @@ module _ {g : Net} {survey asked : List ℕ} {e k : ℕ} {row₀ : List ℕ} whe
             surveyed = i .surveyed;
             spare = i .spare;
             ends = rw (step .from-is, step .lower-is) (i .ends);
-            one = record { carries = own _ _ a′ (step .carries); free = λ v m. fresh v (sym (behind-more v) ∙ m) };
-            two = record { carries = i .two .carries; free = rw (step .from-is) (i .two .free) };
+            one = own _ _ a′ (step .carries);
+            two = i .two;
+            climbs = rw (step .here, step .from-is) (climbs-next (treeOf g) (from-home i) (from-home (between-turn i)) (i .climbs) (turn .not-over));
             size = w ∙ i .size;
             rows =
                 λ before h.

@@ -27,11 +27,6 @@ use Rattle.table.specs.declared.Side.{Side}
 use Rattle.entries.specs.Row.{entriesIn, entryRow, standing, pastEntries}
 use Rattle.table.specs.Table.{isAsked}
 
--- a row in which the numbers of some nodes went through f, and all others stayed
-pub record Moved (done : ℕ → Bool) (f : ℕ → ℕ) (before after : List ℕ) : Type 0 where
-  pub size : length after ≡ length before
-  pub each : (x : ℕ) → getD after x 0 ≡ cond (done x) (f (getD before x 0)) (getD before x 0)
-
 -- a row of entries that holds the record f of each node, and past them what another row holds
 pub record Entries (n : ℕ) (f : ℕ → List ℕ) (before after : List ℕ) : Type 0 where
   pub size : length after ≡ length before

@@ -1,21 +1,21 @@
 -- What is answered of one node, of two, and of all: from the verdicts and climbs of the code to the definitions. Assumes nothing.
-use mathlib.Core.Path.{_≡_, refl, sym, subst, ap, _∙_}
-use mathlib.Core.Bool.{true, false, _&&_}
+use mathlib.Core.Path.{_≡_, refl, sym, ap, _∙_}
+use mathlib.Core.Bool.{false, _&&_}
 use mathlib.Core.List.{List, [], _∷_, _++_}
 use Prim.Native.Nat.{ℕ, _+_, _*_, _-_, _<_, _≤_}
 use native.Mathlib.Nat.{le-trans, mul-le-mul-right}
 use native.Mathlib.Omega.{arith}
 use lib.Dec.{ltb}
-use lib.ListN.{length, getD, take, drop}
-use lib.Seq.{sets, sets-eq, take-at}
-use borrow.Author.Tests.{eq-eqb, ltb-true, ltb-false, le-ltb, not-false}
+use lib.ListN.{length, drop}
+use lib.Seq.{sets, sets-eq}
+use borrow.Author.Tests.{ltb-true, ltb-false, le-ltb, not-false}
 use Rattle.edition.specs.declared.Refusal.{Refusal}
 use Rattle.edition.specs.declared.Verdict.{Verdict}
 use Rattle.edition.specs.declared.Verdict.the-variants.{Taken, Refused}
 use Rattle.edition.specs.declared.Why.the-variants.{NodeCount, NoRoute, NoRoom}
 use Rattle.edition.specs.declared.Search.{Search}
-use Rattle.edition.specs.Limits.{nodeLimit, longest, memoryLimits}
-use Rattle.rows.specs.Lists.{has, total}
+use Rattle.edition.specs.Limits.{nodeLimit, memoryLimits}
+use Rattle.rows.specs.Lists.{total}
 use Rattle.rows.specs.First.{refuseIf}
 use Rattle.rows.specs.Count.{rowWith}
 use Rattle.rows.proofs.Tests.{and-left, and-right}
@@ -26,15 +26,14 @@ use Rattle.network.specs.Records.{badNodes}
 use Rattle.tree.specs.declared.Climb.{Climb}
 use Rattle.tree.specs.declared.Answer.{Answer}
 use Rattle.tree.specs.declared.Answer.the-variants.{Is}
-use Rattle.tree.specs.Tree.{Tree, treeOf, climb, route, hasRoute, dist, hops}
+use Rattle.tree.specs.Tree.{Tree, treeOf, climb, route, hasRoute, dist, meet, apart}
 use Rattle.tree.specs.Answers.{roomVerdict, rowVerdict, distanceRow, lost, wayVerdict, answerIf, routeVerdict, routeRow, routeAnswer}
 use Rattle.tree.specs.Answers.{waysVerdict, meetAnswer, apartAnswer}
-use Rattle.tree.specs.Work.{Rooted, Routed, Onto}
-use Rattle.tree.proofs.Ways.{Way, top, hop, Home, way, home-up, route-root, route-length, hops-cut, dist-cut, under-root, way-root}
+use Rattle.tree.specs.Work.{Rooted, Routed}
+use Rattle.tree.proofs.Ways.{Way, top, hop, Home, way, nodes-of, route-length}
 use Rattle.tree.proofs.Climbing.{climb-root, climb-up}
 use Rattle.network.proofs.Sizes.{nodes-within}
-use Rattle.tree.proofs.InRows.{size-in, root-in, few}
-use Rattle.tree.proofs.Onto.{onto-meet, onto-apart}
+use Rattle.tree.proofs.InRows.{few}
 
 -- n is within the limit
 pub few-nodes : (n : ℕ) → badNodes memoryLimits n ≡ false → n ≤ nodeLimit
@@ -66,16 +65,6 @@ unfolding waysVerdict
 ways-taken g u z h = (head-taken _ _ h, head-taken _ _ (rest-taken _ _ h))
 
 module _ (t : Tree) where
-  -- how many nodes a route has
-  pub nodes-of : (u : ℕ) → Home t u → length (route t u) ≡ hops t (t .root) u + 1
-  nodes-of u h =
-      let hr = home-up t u (t .root) h (under-root t u h) in
-      omega (
-        arith,
-        hops-cut t u (t .root) h (under-root t u h),
-        ap length (route-root t (t .root) hr (eq-eqb (t .root) (t .root) refl)),
-      )
-
   exact : {u : ℕ} {r : List ℕ} → Way t u r → climb t (length r) u ≡ r
   exact (top {u} e) = climb-root t 0 u e
   exact (hop {u} {r} e w) = climb-up t (length r) u e ∙ ap (λ (l : List ℕ). u ∷ l) (exact w)
@@ -153,20 +142,14 @@ module _ (g : Net) (u z : ℕ) where
   unfolding meetAnswer apartAnswer
   ways-lost v r a q p e = (refused-answer v _ r a _ p (sym q ∙ p) e, refused-answer v _ r a _ p (sym q ∙ p) e)
 
-  module _ (t : waysVerdict g u z ≡ Taken) (c : Climb) (o : Onto (treeOf g) u (route (treeOf g) z) c) where
-    hu : Home (treeOf g) u
-    hu = way-taken g u (ways-taken g u z t .0) .2
-
-    hz : Home (treeOf g) z
-    hz = way-taken g z (ways-taken g u z t .1) .2
-
-    pub met : Is (c .node) ≡ meetAnswer g u z
+  module _ (t : waysVerdict g u z ≡ Taken) (d : ℕ) where
+    pub met : d ≡ meet (treeOf g) u z → Is d ≡ meetAnswer g u z
     unfolding meetAnswer
-    met = rw t (ap Is (onto-meet (treeOf g) u z hu hz c o))
+    met q = rw t (ap Is q)
 
-    pub parted : (e f : Climb) → Rooted (treeOf g) z e → Rooted (treeOf g) (c .node) f → Is (c .dist + (e .dist - f .dist)) ≡ apartAnswer g u z
+    pub parted : d ≡ apart (treeOf g) u z → Is d ≡ apartAnswer g u z
     unfolding apartAnswer
-    parted e f p q = rw t (ap Is (onto-apart (treeOf g) u z hu hz c o e f p q))
+    parted q = rw t (ap Is q)
 
 module _ (g : Net) (row : List ℕ) where
   pub rows-refused : (v : Verdict) (r : Refusal) → v ≡ roomVerdict (g .nodes) (length row) → v ≡ Refused r → (v ≡ rowVerdict g row) × (row ≡ distanceRow g row)
@@ -212,40 +195,3 @@ module _ (links parents : List ℕ) (search : Search) where
   nodes-known u h c r =
       let t = treeOf g in
       (omega (arith, r .hops-is, nodes-of t u h), omega (arith, r .hops-is, nodes-of t u h, route-length t u))
-
-  -- the written part of the work row is the route of z
-  pub part-known :
-      (z : ℕ)
-      → Home (treeOf g) z → (c : Climb) → Rooted (treeOf g) z c
-      → (row after : List ℕ) (r : ℕ) → c .hops + 1 ≤ length row
-      → Routed (treeOf g) (c .hops + 1) z 0 row r after
-      → take (c .hops + 1 - 0) after ≡ route (treeOf g) z
-  part-known z h c p row after r room s =
-      let t = treeOf g in
-      let n = nodes-known z h c p .0 in
-      let k : c .hops + 1 - 0 ≡ c .hops + 1 = omega arith in
-      rw (k, routed-whole t z h (c .hops + 1) n row after r room s .1)
-      (take-at (route t z) (drop (length (route t z)) row) (c .hops + 1) (sym n))
-
-  pub root-there :
-      (z : ℕ)
-      → Home (treeOf g) z → (part : List ℕ)
-      → part ≡ route (treeOf g) z → has (search .root) part ≡ true
-  root-there z h part q =
-      rw q
-      (subst (λ (v : ℕ). has v (route (treeOf g) z) ≡ true) (root-in links parents search)
-      (way-root (treeOf g) (way (treeOf g) z h)))
-
-  -- a tree distance is small
-  pub parted-small :
-      ((i : ℕ) → getD links i 0 ≤ longest)
-      → length parents ≤ nodeLimit → (u z : ℕ) → Home (treeOf g) u
-      → (c e f : Climb) (row : List ℕ) → Onto (treeOf g) u row c
-      → Rooted (treeOf g) z e
-      → c .dist + (e .dist - f .dist) ≤ nodeLimit * longest + nodeLimit * longest
-  parted-small held small u z hu c e f row o p =
-      let t = treeOf g in
-      let a = dist-small t longest (few links parents search held) u in
-      let b = dist-small t longest (few links parents search held) z in
-      let m = mul-le-mul-right longest (rw (← size-in links parents search) at small) in
-      omega (arith, o .along .dist-is, p .dist-is, dist-cut t u (c .node) hu (o .along .on))

@@ -1,8 +1,9 @@
 -- How long routes can be, where each node's parent is a node: a node that has a way at all has one of at most n nodes, so the
--- cut in `route` and the bound of refusal 8 lose nothing; and a way around a failed link passes no node twice. Assumes nothing.
+-- cut in `route` and the bound of refusal 8 lose nothing; and a tree path, and a way around a failed link, have no more nodes than
+-- there are. Assumes nothing.
 use mathlib.Core.Path.{_≡_, refl, sym, subst, ap₂, _∙_}
-use mathlib.Core.Bool.{Bool, true, false, _||_}
-use mathlib.Core.List.{List, _∷_, _++_}
+use mathlib.Core.Bool.{true, false, _||_}
+use mathlib.Core.List.{List, [], _∷_, _++_}
 use Prim.Native.Nat.{ℕ, _+_, _*_, _<_, _≤_}
 use native.Mathlib.Nat.{suc-mul, one-mul, add-mul, mul-le-mul-right}
 use native.Mathlib.Omega.{arith}
@@ -10,12 +11,12 @@ use lib.Dec.{eqb}
 use lib.ListN.{length, length-append}
 use borrow.Author.Tests.{eqb-true, ne-eqb}
 use Rattle.rows.specs.Lists.{has, upTo, total}
-use Rattle.rows.proofs.Tests.{clash, either}
+use Rattle.rows.proofs.Tests.{clash, either, not-so}
 use Rattle.rows.proofs.Listed.{has-append, total-bound, upTo-less, upTo-out}
-use Rattle.rows.proofs.Distinct.{Distinct, cons, pigeons, distinct-append, distinct-upTo}
+use Rattle.rows.proofs.Distinct.{Distinct, nil, cons, pigeons, distinct-append, distinct-upTo}
 use Rattle.tree.specs.Tree.{Tree, route, dist, under, hops, wayUp, meet, apart}
-use Rattle.tree.proofs.Ways.{Way, top, hop, Home, way, way-home, way-distinct, home-up, hops-cut, under-trans, before-on, before-under}
-use Rattle.tree.proofs.Meeting.{meet-one, meet-two, meet-none, meet-under}
+use Rattle.tree.proofs.Ways.{Way, top, hop, Home, way, way-home, way-distinct, home-up, hops-cut, under-self, under-trans, before-on, before-under}
+use Rattle.tree.proofs.Meeting.{meet-one, meet-two, meet-none, meet-under, home-meet}
 
 -- lengths of at most so much a node, added up
 shared :
@@ -57,71 +58,91 @@ module _ (t : Tree) (closed : (u : ℕ) → u < t .size → t .up u < t .size) w
       long (hop e (top f)) = omega arith
       long (hop e (hop f w)) = omega arith
 
-  -- the nodes of a way around: up from u to where it meets the route of z, down to z, and the route of z'
-  around : ℕ → ℕ → ℕ → List ℕ
-  around u z z′ = upTo (meet t u z) (route t u) ++ (upTo (meet t u z) (route t z) ++ (meet t u z ∷ route t z′))
+  -- the nodes of the tree path from u to z, where the routes meet among them, and a list after that
+  along : ℕ → ℕ → List ℕ → List ℕ
+  along u z rest = upTo (meet t u z) (route t u) ++ (upTo (meet t u z) (route t z) ++ (meet t u z ∷ rest))
 
-  module _ (x u z z′ : ℕ) (hu : Home t u) (hz : Home t z) (hz′ : Home t z′) (lu : u < t .size) (lz : z < t .size)
-      (lz′ : z′ < t .size) (pu : under t x u ≡ true) (pz : under t x z ≡ true) (pz′ : under t x z′ ≡ false) where
-    -- a node of T(x) is not on the route of z'
-    across : (y : ℕ) → under t x y ≡ true → under t y z′ ≡ false
-    across y p = go (under t y z′) refl
-      where
-        go : (b : Bool) → under t y z′ ≡ b → under t y z′ ≡ false
-        go false e = e
-        go true e = clash (under-trans t y x z′ hz′ e p) pz′
-
-    mx : under t x (meet t u z) ≡ true
-    mx = meet-under t u z x hu hz pu pz
-
-    -- what stands before the meeting place on the route of a node under it is in T(x)
-    before-x : (v y : ℕ) → Home t v → under t (meet t u z) v ≡ true → has y (upTo (meet t u z) (route t v)) ≡ true → under t x y ≡ true
-    before-x v y h e p =
-        under-trans t (meet t u z) x y (home-up t v y h (before-on t v (meet t u z) y p)) (before-under t v (meet t u z) y h e p) mx
-
-    tail-not : (v y : ℕ) → Home t v → under t (meet t u z) v ≡ true → has y (upTo (meet t u z) (route t v)) ≡ true → has y (meet t u z ∷ route t z′) ≡ false
-    unfolding has under
+  -- a list of different nodes, none of them under where the routes of u and z meet
+  module _ (u z : ℕ) (hu : Home t u) (hz : Home t z) (lu : u < t .size) (lz : z < t .size) (rest : List ℕ) (d : Distinct rest)
+      (low : (y : ℕ) → has y rest ≡ true → y < t .size) (free : (y : ℕ) → Home t y → under t (meet t u z) y ≡ true → has y rest ≡ false) where
+    tail-not : (v y : ℕ) → Home t v → under t (meet t u z) v ≡ true → has y (upTo (meet t u z) (route t v)) ≡ true → has y (meet t u z ∷ rest) ≡ false
+    unfolding has
     tail-not v y h e p =
         ap₂ _||_
         (ne-eqb (meet t u z) y (λ q. clash (subst (λ (k : ℕ). has k (upTo (meet t u z) (route t v)) ≡ true) (sym q) p) (upTo-out (meet t u z) (route t v))))
-        (across y (before-x v y h e p))
+        (free y (home-up t v y h (before-on t v (meet t u z) y p)) (before-under t v (meet t u z) y h e p))
 
-    around-distinct : Distinct (around u z z′)
-    unfolding around under
-    around-distinct =
+    along-distinct : Distinct (along u z rest)
+    unfolding along under
+    along-distinct =
         distinct-append (distinct-upTo (meet t u z) (way-distinct t (way t u hu)))
         (distinct-append (distinct-upTo (meet t u z) (way-distinct t (way t z hz)))
-        (cons (across (meet t u z) mx) (way-distinct t (way t z′ hz′)))
+        (cons (free (meet t u z) (home-meet t u z hu hz) (under-self t (meet t u z) (home-meet t u z hu hz))) d)
         (λ y p. tail-not z y hz (meet-two t u z hu hz) p))
         (λ y p.
-        has-append y (upTo (meet t u z) (route t z)) (meet t u z ∷ route t z′) ∙
+        has-append y (upTo (meet t u z) (route t z)) (meet t u z ∷ rest) ∙
         ap₂ _||_ (upTo-less y (meet t u z) (route t z) (meet-none t u z y hu hz p)) (tail-not u y hu (meet-one t u z hu hz) p))
 
-    around-below : (y : ℕ) → has y (around u z z′) ≡ true → y < t .size
-    unfolding around has under
-    around-below y m =
+    along-below : (y : ℕ) → has y (along u z rest) ≡ true → y < t .size
+    unfolding along has
+    along-below y m =
         let c = meet t u z in
-        either (has y (upTo c (route t u))) (has y (upTo c (route t z) ++ (c ∷ route t z′)))
-        (sym (has-append y (upTo c (route t u)) (upTo c (route t z) ++ (c ∷ route t z′))) ∙ m)
+        either (has y (upTo c (route t u))) (has y (upTo c (route t z) ++ (c ∷ rest)))
+        (sym (has-append y (upTo c (route t u)) (upTo c (route t z) ++ (c ∷ rest))) ∙ m)
         (λ p. under-below u y hu lu (before-on t u c y p))
         (λ p n.
-        either (has y (upTo c (route t z))) (has y (c ∷ route t z′)) (sym (has-append y (upTo c (route t z)) (c ∷ route t z′)) ∙ n)
+        either (has y (upTo c (route t z))) (has y (c ∷ rest)) (sym (has-append y (upTo c (route t z)) (c ∷ rest)) ∙ n)
         (λ q. under-below z y hz lz (before-on t z c y q))
         (λ q k.
-        either (eqb c y) (has y (route t z′)) k
+        either (eqb c y) (has y rest) k
         (λ r. rw (← eqb-true c y r) (under-below z c hz lz (meet-two t u z hu hz)))
-        (λ r j. under-below z′ y hz′ lz′ j)))
+        (λ r j. low y j)))
+
+    -- the way has at most as many nodes as there are
+    along-few : length (upTo (meet t u z) (route t u)) + length (upTo (meet t u z) (route t z)) + 1 + length rest ≤ t .size
+    unfolding along
+    along-few =
+        omega (
+          arith,
+          pigeons (t .size) (along u z rest) along-distinct along-below,
+          length-append (upTo (meet t u z) (route t u)) (upTo (meet t u z) (route t z) ++ (meet t u z ∷ rest)),
+          length-append (upTo (meet t u z) (route t z)) (meet t u z ∷ rest),
+        )
+
+  -- a tree path is no longer than as many links as there are nodes, less one
+  pub apart-bound :
+      (most : ℕ)
+      → ((v : ℕ) → t .rise v ≤ most) → (u z : ℕ) → Home t u → Home t z → u < t .size → z < t .size
+      → apart t u z + most ≤ t .size * most
+  unfolding apart wayUp has
+  apart-bound most few u z hu hz lu lz =
+      let c = meet t u z in
+      let a = length (upTo c (route t u)) in
+      let b = length (upTo c (route t z)) in
+      let nodes : a + b + 1 ≤ t .size = omega (arith, along-few u z hu hz lu lz [] nil (λ y m. clash m refl) (λ y h p. refl)) in
+      omega (
+        arith,
+        total-bound (t .rise) most few (upTo c (route t u)),
+        total-bound (t .rise) most few (upTo c (route t z)),
+        mul-le-mul-right most nodes,
+        add-mul (a + b) 1 most,
+        add-mul a b most,
+        one-mul most,
+      )
+
+  module _ (x u z z′ : ℕ) (hu : Home t u) (hz : Home t z) (hz′ : Home t z′) (lu : u < t .size) (lz : z < t .size)
+      (lz′ : z′ < t .size) (pu : under t x u ≡ true) (pz : under t x z ≡ true) (pz′ : under t x z′ ≡ false) where
+    -- a node under where the routes meet is in T(x), and so is not on the route of z'
+    across : (y : ℕ) → Home t y → under t (meet t u z) y ≡ true → has y (route t z′) ≡ false
+    unfolding under
+    across y h p =
+        not-so (has y (route t z′))
+        (λ e. clash (under-trans t y x z′ hz′ e (under-trans t (meet t u z) x y h p (meet-under t u z x hu hz pu pz))) pz′)
 
     -- the way around has at most as many nodes as there are
     pub around-few : length (upTo (meet t u z) (route t u)) + length (upTo (meet t u z) (route t z)) + 1 + length (route t z′) ≤ t .size
-    unfolding around
     around-few =
-        omega (
-          arith,
-          pigeons (t .size) (around u z z′) around-distinct around-below,
-          length-append (upTo (meet t u z) (route t u)) (upTo (meet t u z) (route t z) ++ (meet t u z ∷ route t z′)),
-          length-append (upTo (meet t u z) (route t z)) (meet t u z ∷ route t z′),
-        )
+        along-few u z hu hz lu lz (route t z′) (way-distinct t (way t z′ hz′)) (way-below (way t z′ hz′) lz′) across
 
     module _ (most : ℕ) (few : (v : ℕ) → t .rise v ≤ most) (flat : (v : ℕ) → eqb v (t .root) ≡ true → t .rise v ≡ 0) where
       dist-few : {v : ℕ} {r : List ℕ} → Way t v r → total (t .rise) r + most ≤ length r * most

@@ -1,7 +1,7 @@
 -- The climbing cursor against the route. From its start the cursor's hops and distance are those of the node that it has come to;
 -- no sum wraps, since no climb takes more steps than there can be nodes. Assumes nothing.
 use mathlib.Core.Path.{_≡_, refl, sym, subst, ap, _∙_}
-use mathlib.Core.Bool.{true, false}
+use mathlib.Core.Bool.{Bool, true, false, _||_}
 use mathlib.Core.List.{List, [], _∷_, _++_, append-assoc}
 use Prim.Native.Nat.{ℕ, suc, _+_, _*_, _-_, _%_, _^_, _<_, _≤_}
 use native.Mathlib.Nat.{mod-eq-of-lt}
@@ -11,14 +11,14 @@ use lib.ListN.{length, length-append}
 use borrow.Author.Tests.{eqb-true, eq-eqb, ne-eqb}
 use Rattle.edition.specs.Limits.{nodeLimit, longest}
 use Rattle.rows.specs.Lists.{has, upTo, total}
-use Rattle.rows.proofs.Tests.{clash, either, or-false, or-right, not-so}
+use Rattle.rows.proofs.Tests.{clash, either, or-false, or-right, or-none, not-so}
 use Rattle.rows.proofs.Listed.{has-append, total-append, total-bound, upTo-here, upTo-past}
 use Rattle.tree.specs.declared.Climb.{Climb}
 use Rattle.tree.specs.Tree.{Tree, climb, route, arrives, dist, under, hops, wayUp}
 use Rattle.tree.specs.Answers.{begun, stepped}
 use Rattle.tree.specs.Work.{Rooted, Along}
 use Rattle.tree.proofs.Ways.{Way, top, hop, Home, way, route-step, route-length, home-up, home-step, route-cut, under-self, under-trans}
-use Rattle.tree.proofs.Ways.{before-longer, after-shorter, hops-cut, way-head}
+use Rattle.tree.proofs.Ways.{before-longer, after-shorter, hops-cut, way-head, route-root, under-cut}
 
 -- a sum that is small enough is kept
 pub kept : (v : ℕ) → v < 2 ^ 64 → v % 2 ^ 64 ≡ v
@@ -226,6 +226,27 @@ module _ (t : Tree) where
 
   pub start-cut : (u : ℕ) → Home t u → upTo u (route t u) ≡ []
   start-cut u h = let z = way-head t (way t u h) in ap (upTo u) (z .1) ∙ upTo-here u u (z .0) (eq-eqb u u refl)
+
+  -- the nodes that a climb has passed: none where it begins, with each step the node that it leaves, and at the
+  -- root all that are above where it began, but for the root
+  pub passed-none : (u : ℕ) → Home t u → (v : ℕ) → has v (upTo u (route t u)) ≡ false
+  unfolding has
+  passed-none u h v = rw (start-cut u h)
+
+  pub passed-more :
+      (u : ℕ)
+      → Home t u → (a : ℕ) → under t a u ≡ true → eqb a (t .root) ≡ false → (v : ℕ)
+      → has v (upTo (t .up a) (route t u)) ≡ (has v (upTo a (route t u)) || eqb a v)
+  unfolding has
+  passed-more u h a p r v =
+      ap (has v) (way-on u h a p r) ∙ has-append v (upTo a (route t u)) (a ∷ []) ∙
+      ap (λ (b : Bool). has v (upTo a (route t u)) || b) (or-none (eqb a v))
+
+  pub passed-all : (u : ℕ) → Home t u → (a : ℕ) → under t a u ≡ true → eqb a (t .root) ≡ true → (v : ℕ) → under t v u ≡ (has v (upTo a (route t u)) || eqb a v)
+  unfolding under has
+  passed-all u h a p r v =
+      under-cut t u a v h p ∙
+      ap (λ (b : Bool). has v (upTo a (route t u)) || b) (ap (has v) (route-root t a (home-up t u a h p) r) ∙ or-none (eqb a v))
 
   -- the cursor where it begins
   pub along-start : (u : ℕ) → Home t u → (c : Climb) → c ≡ begun u → Along t u c

@@ -5,6 +5,10 @@ pub mod Made
 pub mod Climbing
 pub mod InRows
 pub mod Writing
+pub mod Apart
 pub mod Onto
+pub mod TwoClimbs
+pub mod Together
 pub mod Answering
+pub mod Numbers
 pub mod Outcomes

@@ -2,10 +2,11 @@
 use mathlib.Core.Path.{_≡_, refl, sym, ap, _∙_}
 use mathlib.Core.Bool.{Bool, true, false, _||_}
 use mathlib.Core.List.{List, [], _∷_}
-use Prim.Native.Nat.{ℕ, _+_, _≤_}
+use Prim.Native.Nat.{ℕ, _+_, _<_, _≤_}
 use native.Mathlib.Omega.{arith}
 use lib.Dec.{eqb}
-use borrow.Author.Tests.{eqb-true}
+use lib.ListN.{length}
+use borrow.Author.Tests.{eqb-true, eqb-false}
 use Rattle.rows.specs.Lists.{has, upTo, differ}
 use Rattle.rows.proofs.Tests.{clash}
 use Rattle.rows.proofs.Listed.{Meets, firstOf-meets, has-head, upTo-past}
@@ -20,7 +21,7 @@ apart-bools false false true f g = refl
 apart-bools false false false f g = refl
 
 module _ (t : Tree) where
-  meet-is : (a b : ℕ) → Home t a → Home t b → Meets (route t a) (route t b) (meet t a b)
+  pub meet-is : (a b : ℕ) → Home t a → Home t b → Meets (route t a) (route t b) (meet t a b)
   unfolding meet
   meet-is a b h g = firstOf-meets (t .root) (route t a) (route t b) (way-root t (way t a h)) (way-root t (way t b g))
 
@@ -62,16 +63,24 @@ module _ (t : Tree) where
   way-before e (top {u} q) f = head-before u e [] f
   way-before e (hop {u} {r} q w) f = head-before u e r f
 
+  -- of two nodes, the one below has the longer route
+  pub longer-below : (x y : ℕ) → Home t y → under t x y ≡ true → (x ≡ y → ⊥) → length (route t x) < length (route t y)
+  longer-below x y h p n = go (has y (upTo x (route t y))) refl
+    where
+      go : (b : Bool) → has y (upTo x (route t y)) ≡ b → length (route t x) < length (route t y)
+      go true e = before-longer t y x y h p e (home-up t y x h p) h
+      go false e = absurd (n (sym (way-before x (way t y h) e)))
+
   -- two nodes that are under each other are one
   pub under-both : (c e : ℕ) → Home t c → Home t e → under t c e ≡ true → under t e c ≡ true → c ≡ e
-  under-both c e hc he p q = go (has c (upTo e (route t c))) refl
+  under-both c e hc he p q = go (eqb c e) refl
     where
-      go : (b : Bool) → has c (upTo e (route t c)) ≡ b → c ≡ e
-      go true f = absurd (omega (arith, before-longer t c e c hc q f he hc, after-shorter t e c he hc p))
-      go false f = way-before e (way t c hc) f
+      go : (b : Bool) → eqb c e ≡ b → c ≡ e
+      go true f = eqb-true c e f
+      go false f = absurd (omega (arith, longer-below c e he p (eqb-false c e f), after-shorter t c e hc he q))
 
   -- the routes of u and z meet where those of z and u do
-  meet-sym : (u z : ℕ) → Home t u → Home t z → meet t u z ≡ meet t z u
+  pub meet-sym : (u z : ℕ) → Home t u → Home t z → meet t u z ≡ meet t z u
   meet-sym u z h g =
       under-both (meet t u z) (meet t z u) (home-meet u z h g) (home-meet z u g h)
       (meet-under z u (meet t u z) g h (meet-two u z h g) (meet-one u z h g))

@@ -1,5 +1,4 @@
--- The climb onto a row that has the root: it ends at the first node of the route that is in the row; and where that row is another
--- route, that is where the two meet. Assumes nothing.
+-- The climb onto a row that has the root: it ends at the first node of the route that is in the row. Assumes nothing.
 use mathlib.Core.Path.{_≡_, refl, sym, subst, ap, _∙_}
 use mathlib.Core.Bool.{Bool, true, false, not, _||_}
 use mathlib.Core.List.{List, [], _∷_, _++_}
@@ -12,14 +11,20 @@ use Rattle.edition.specs.declared.Search.{Search}
 use Rattle.edition.specs.Limits.{nodeLimit, longest}
 use Rattle.rows.specs.Lists.{has, upTo}
 use Rattle.rows.proofs.Tests.{clash, either}
-use Rattle.rows.proofs.Listed.{has-append, meets-only}
+use Rattle.rows.proofs.Listed.{has-append}
 use Rattle.tree.specs.declared.Climb.{Climb}
-use Rattle.tree.specs.Tree.{Tree, route, dist, under, meet, apart}
+use Rattle.tree.specs.Tree.{Tree, route, under}
 use Rattle.tree.specs.Answers.{begun, stepped}
-use Rattle.tree.specs.Work.{Rooted, Along, Onto}
-use Rattle.tree.proofs.Ways.{Home, dist-cut, dist-up}
+use Rattle.tree.specs.Work.{Along}
+use Rattle.tree.proofs.Ways.{Home}
 use Rattle.tree.proofs.Climbing.{way-on, along-start, along-step, shorter, start-cut}
 use Rattle.tree.proofs.InRows.{treeIn, size-in, off-root, few}
+
+-- a climb from u that has come to the first node of its route that is in a row
+pub record Onto (t : Tree) (u : ℕ) (row : List ℕ) (c : Climb) : Type 0 where
+  pub along : Along t u c
+  pub here : has (c .node) row ≡ true
+  pub none : (y : ℕ) → has y (upTo (c .node) (route t u)) ≡ true → has y row ≡ false
 
 -- a climb from u that has met no node of the row yet
 pub record Onward (t : Tree) (u : ℕ) (row : List ℕ) (c : Climb) : Type 0 where
@@ -75,26 +80,3 @@ module _ (links parents : List ℕ) (search : Search) (held : (i : ℕ) → getD
 
         pub onward-less : length (route (treeIn links parents search) (d .node)) < length (route (treeIn links parents search) (c .node))
         onward-less = rw next (omega (arith, shorter (treeIn links parents search) u hu (c .node) on away))
-
--- a climb onto the route of z ends where the routes of u and z meet
-module _ (t : Tree) (u z : ℕ) (hu : Home t u) (hz : Home t z) (c : Climb) (o : Onto t u (route t z) c) where
-  pub onto-meet : c .node ≡ meet t u z
-  unfolding meet under
-  onto-meet = meets-only (route t u) (route t z) (c .node) (record { one = o .along .on; two = o .here; none = o .none })
-
-  on-both : under t (c .node) z ≡ true
-  unfolding under
-  on-both = o .here
-
-  -- the length of the tree path, from the climb and two distances
-  pub onto-apart : (e f : Climb) → Rooted t z e → Rooted t (c .node) f → c .dist + (e .dist - f .dist) ≡ apart t u z
-  unfolding apart
-  onto-apart e f p q =
-      rw (← onto-meet)
-      (omega (arith, o .along .dist-is, p .dist-is, q .dist-is, dist-cut t z (c .node) hz on-both))
-
-  pub onto-less : (e f : Climb) → Rooted t z e → Rooted t (c .node) f → f .dist ≤ e .dist
-  onto-less e f p q = omega (arith, p .dist-is, q .dist-is, dist-up t z (c .node) hz on-both)
-
-pub onto-same : (t : Tree) (u : ℕ) (c : Climb) (part whole : List ℕ) → part ≡ whole → Onto t u part c → Onto t u whole c
-onto-same t u c part whole q o = subst (λ (l : List ℕ). Onto t u l c) q o

@@ -8,7 +8,7 @@ use native.Mathlib.Nat.{not-suc-le-zero}
 use native.Mathlib.Omega.{arith}
 use lib.Dec.{eqb}
 use lib.ListN.{length, length-append}
-use borrow.Author.Tests.{eqb-true, ne-eqb}
+use borrow.Author.Tests.{eqb-true, eq-eqb, ne-eqb}
 use Rattle.rows.specs.Lists.{has, upTo, total}
 use Rattle.rows.proofs.Tests.{clash, either, or-right}
 use Rattle.rows.proofs.Listed.{has-append, has-head, total-append, upTo-here, upTo-past, upTo-less}
@@ -197,6 +197,16 @@ module _ (t : Tree) where
       rw (route-cut u x h e, has-append y (upTo x (route t u)) (route t x))
       (or-right (has y (upTo x (route t u))) (has y (route t x)) f)
 
+  -- how many nodes a route has
+  pub nodes-of : (u : ℕ) → Home u → length (route t u) ≡ hops t (t .root) u + 1
+  nodes-of u h =
+      let hr = home-up u (t .root) h (under-root u h) in
+      omega (
+        arith,
+        hops-cut u (t .root) h (under-root u h),
+        ap length (route-root (t .root) hr (eq-eqb (t .root) (t .root) refl)),
+      )
+
   -- under x: before c on the route, or under x at c
   pub under-cut : (u c x : ℕ) → Home u → under t c u ≡ true → under t x u ≡ (has x (upTo c (route t u)) || under t x c)
   unfolding under
@@ -251,7 +261,7 @@ module _ (t : Tree) where
   pub above-root : (x : ℕ) → Home (t .root) → under t x (t .root) ≡ true → x ≡ t .root
   unfolding under has
   above-root x h e =
-      let alone = route-root (t .root) h (borrow.Author.Tests.eq-eqb (t .root) (t .root) refl) in
+      let alone = route-root (t .root) h (eq-eqb (t .root) (t .root) refl) in
       either (eqb (t .root) x) false (rw alone at e) (λ q. sym (eqb-true (t .root) x q)) (λ q c. clash c refl)
 
   -- x is over a node that is not the root exactly where it is the node or over its parent

@@ -1,13 +1,13 @@
 -- What private functions of this crate promise each other. No public promise cites this page. Assumes nothing.
 use mathlib.Core.Path.{_≡_}
-use mathlib.Core.Bool.{true, false}
+use mathlib.Core.Bool.{true}
 use mathlib.Core.List.{List}
 use Prim.Native.Nat.{ℕ, _*_, _≤_}
 use lib.Seq.{sets}
 use Rattle.edition.specs.Limits.{longest}
-use Rattle.rows.specs.Lists.{has, upTo, total}
+use Rattle.rows.specs.Lists.{total}
 use Rattle.tree.specs.declared.Climb.{Climb}
-use Rattle.tree.specs.Tree.{Tree, climb, route, dist, under, hops, wayUp}
+use Rattle.tree.specs.Tree.{Tree, climb, dist, under, hops, wayUp}
 
 -- a climb from u that has come to the root, or as far as the route goes
 pub record Rooted (t : Tree) (u : ℕ) (c : Climb) : Type 0 where
@@ -25,9 +25,3 @@ pub record Along (t : Tree) (u : ℕ) (c : Climb) : Type 0 where
   pub on : under t (c .node) u ≡ true
   pub hops-is : c .hops ≡ hops t (c .node) u
   pub dist-is : c .dist ≡ wayUp t (c .node) u
-
--- a climb from u that has come to the first node of its route that is in a row
-pub record Onto (t : Tree) (u : ℕ) (row : List ℕ) (c : Climb) : Type 0 where
-  pub along : Along t u c
-  pub here : has (c .node) row ≡ true
-  pub none : (y : ℕ) → has y (upTo (c .node) (route t u)) ≡ true → has y row ≡ false

@@ -5,12 +5,11 @@ ghost use Prim.Native.Nat.{_+_, _<_, _≤_};
 ghost use lib.ListN.{length};
 ghost use Rattle.edition.specs.Limits.{nodeLimit};
 ghost use Rattle.rows.specs.Count.{rowWith};
-ghost use Rattle.rows.specs.Lists.{has};
 ghost use Rattle.network.specs.Network.{netOf};
-ghost use Rattle.tree.specs.Tree.{treeOf, route as routeTo, hasRoute, dist};
+ghost use Rattle.tree.specs.Tree.{treeOf, hasRoute, dist, meet, apart};
 ghost use Rattle.tree.specs.Answers.{begun, stepped, roomVerdict, rowVerdict, distanceRow, lost, wayVerdict, answerIf, routeAnswer, routeRow};
 ghost use Rattle.tree.specs.Answers.{waysVerdict, meetAnswer, apartAnswer};
-ghost use Rattle.tree.specs.Work.{Rooted, Routed, Onto};
+ghost use Rattle.tree.specs.Work.{Rooted, Routed};
 use edition::Edition;
 use edition::Memory;
 use edition::Refusal;
@@ -23,6 +22,12 @@ pub struct Climb {
     pub node: usize,
     pub hops: usize,
     pub dist: u64,
+}
+
+// Where two routes meet, and the length of the tree path through there.
+struct Met {
+    node: usize,
+    length: u64,
 }
 
 // A number, or why there is none.
@@ -244,39 +249,9 @@ pub fn route(links: &[u16], parents: &[u16], search: Search, u: usize, row: &mut
     Answer::Is(write_route(links, parents, search, nodes, u, row, 0))
 }
 
-// Whether x is in the row.
-fn in_row(row: &[usize], x: usize) -> bool
-    ensures { λ r. ⌜ r ≡ has x (now (row .entry)) ⌝ }
-{
-    let mut i = 0;
-    while i < row.len() {
-        if row[i] == x {
-            return true;
-        }
-        i += 1;
-    }
-    false
-}
-
-// The climb from u to the first node of its route that is in a row that has the root.
-fn climb_onto(links: &[u16], parents: &[u16], search: Search, row: &[usize], u: usize) -> Climb
-    requires { let g = netOf (now links) (now parents) search in
-        ⌜ (length (now parents) ≤ nodeLimit)
-        × (hasRoute (treeOf g) u ≡ true)
-        × (has (search .root) (now row) ≡ true) ⌝ }
-    ensures { λ r.
-        let g = netOf (now (links .entry)) (now (parents .entry)) search in
-        ⌜ Onto (treeOf g) u (now (row .entry)) r ⌝ }
-{
-    let mut c = Climb::begin(u);
-    while !in_row(row, c.node) {
-        c = c.step(links, parents, search);
-    }
-    c
-}
-
-// The climb from u to where its route meets that of z, by a work row for the way up from z.
-fn climb_to_meet(links: &[u16], parents: &[u16], search: Search, u: usize, z: usize) -> Climb
+// Where the routes of u and z meet, and the length of the tree path from u to z. Of the two nodes the one that is more hops from the
+// root climbs, until they are one; where both are as many, the second. It is not above the other.
+fn climb_to_meet(links: &[u16], parents: &[u16], search: Search, u: usize, z: usize) -> Met
     requires { let g = netOf (now links) (now parents) search in
         let t = treeOf g in
         ⌜ (length (now parents) ≤ nodeLimit)
@@ -285,13 +260,24 @@ fn climb_to_meet(links: &[u16], parents: &[u16], search: Search, u: usize, z: us
     ensures { λ r.
         let g = netOf (now (links .entry)) (now (parents .entry)) search in
         let t = treeOf g in
-        ⌜ Onto t u (routeTo t z) r ⌝ }
+        ⌜ (r .node ≡ meet t u z)
+        × (r .length ≡ apart t u z) ⌝ }
 {
-    let mut way = [0usize; Memory::NODES];
-    let c = to_root(links, parents, search, z);
-    let nodes = c.hops + 1;
-    write_route(links, parents, search, nodes, z, &mut way, 0);
-    climb_onto(links, parents, search, &way[0..nodes], u)
+    let from_u = to_root(links, parents, search, u);
+    let from_z = to_root(links, parents, search, z);
+    let mut a = Climb::begin(u);
+    let mut b = Climb::begin(z);
+    while a.node != b.node {
+        if from_z.hops + a.hops < from_u.hops + b.hops {
+            a = a.step(links, parents, search);
+        } else {
+            b = b.step(links, parents, search);
+        }
+    }
+    Met {
+        node: a.node,
+        length: a.dist + b.dist,
+    }
 }
 
 // Refusals 1, and 8 of two nodes.
@@ -317,8 +303,8 @@ pub fn meet_of(links: &[u16], parents: &[u16], search: Search, u: usize, z: usiz
     let Verdict::Taken = ways else {
         return no_answer(ways);
     };
-    let c = climb_to_meet(links, parents, search, u, z);
-    Answer::Is(c.node as u64)
+    let met = climb_to_meet(links, parents, search, u, z);
+    Answer::Is(met.node as u64)
 }
 
 // t(u,z), the length of the tree path from u to z. Refusals 1, and 8 at u or z.
@@ -331,8 +317,6 @@ pub fn tree_distance(links: &[u16], parents: &[u16], search: Search, u: usize, z
     let Verdict::Taken = ways else {
         return no_answer(ways);
     };
-    let c = climb_to_meet(links, parents, search, u, z);
-    let down = to_root(links, parents, search, z);
-    let rest = to_root(links, parents, search, c.node);
-    Answer::Is(c.dist + (down.dist - rest.dist))
+    let met = climb_to_meet(links, parents, search, u, z);
+    Answer::Is(met.length)
 }

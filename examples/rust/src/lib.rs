@@ -9,10 +9,10 @@ pub mod raw;
 
 /// The version of the interface that these calls are made for. What is linked refers to it by name, so a library of another
 /// version does not link.
-pub const VERSION: u32 = 4;
+pub const VERSION: u32 = 5;
 
 #[used]
-static MADE_FOR: unsafe extern "C" fn() -> u32 = raw::doeragyeol_version_4;
+static MADE_FOR: unsafe extern "C" fn() -> u32 = raw::doeragyeol_version_5;
 
 /// The most nodes and links there are.
 pub const NODES: usize = 512;
@@ -30,6 +30,9 @@ pub const FILE_BYTES: usize = 32256;
 
 /// Numbers that each of the forwarder's two rows must have.
 pub const ROUTE_ROW: usize = 2 * NODES - 2;
+
+/// Bytes of stack that the library takes at most for a distance.
+pub const DISTANCE_STACK: usize = 2048;
 
 /// Which row of the forwarder applies.
 pub const ORDINARY: u64 = 0;
@@ -359,6 +362,32 @@ pub fn forward<'a>(
         nodes: &nodes[..count as usize],
         length,
     })
+}
+
+/// The length of the tree path between two nodes. It asks the tree alone: no depth, and no check of the network. The library's
+/// part of the call takes at most `DISTANCE_STACK` bytes of stack.
+pub fn distance(
+    links: &[u16],
+    parents: &[u16],
+    root: u16,
+    from: u16,
+    to: u16,
+) -> Result<u64, Refusal> {
+    let mut distance = [0; 1];
+    said(unsafe {
+        raw::doeragyeol_distance(
+            links.as_ptr(),
+            links.len(),
+            parents.as_ptr(),
+            parents.len(),
+            root,
+            from,
+            to,
+            distance.as_mut_ptr(),
+            distance.len(),
+        )
+    })?;
+    Ok(distance[0])
 }
 
 /// How the swap link of an entry under a measure is crossed; `None` where the entry has none. `links` is the row of the entry's

@@ -19,6 +19,12 @@ pub fn measure_of(word: &str) -> Option<Measure> {
     }
 }
 
+/// The number that a word is, where it is one and not too large for a node.
+pub fn number_of(word: &OsStr) -> Option<u16> {
+    let digits = word.as_bytes().iter().all(u8::is_ascii_digit);
+    word.to_str()?.parse().ok().filter(|_| digits)
+}
+
 /// What a loaded file holds.
 pub struct Filed {
     pub links: Vec<u16>,

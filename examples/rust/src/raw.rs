@@ -1,8 +1,8 @@
-//! The library's nine functions and its version, as `include/doeragyeol.h` declares them and says what a caller owes.
+//! The library's ten functions and its version, as `include/doeragyeol.h` declares them and says what a caller owes.
 
 #[link(name = "doeragyeol", kind = "static")]
 extern "C" {
-    pub fn doeragyeol_version_4() -> u32;
+    pub fn doeragyeol_version_5() -> u32;
 
     pub fn doeragyeol_check(
         links: *const u16,
@@ -128,5 +128,17 @@ extern "C" {
         detour_length: usize,
         way: *mut u64,
         way_length: usize,
+    ) -> u32;
+
+    pub fn doeragyeol_distance(
+        links: *const u16,
+        links_length: usize,
+        parents: *const u16,
+        parents_length: usize,
+        root: u16,
+        from: u16,
+        to: u16,
+        distance: *mut u64,
+        distance_length: usize,
     ) -> u32;
 }

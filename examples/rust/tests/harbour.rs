@@ -1,4 +1,5 @@
-//! The Harbour case through the wrappers: read, changed, written, and asked for the way past a failed link.
+//! The Harbour case through the wrappers: read, changed, written, and asked for the way past a failed link and for the length
+//! of a tree path.
 
 use doeragyeol::*;
 
@@ -323,6 +324,158 @@ fn a_short_row_for_a_way_is_refused() {
     assert_eq!(ask(5, 2), refused(10, 0));
     assert_eq!(ask(5, 3), refused(15, 0));
     assert_eq!((ordinary, detour, way), (SEVENS, SEVENS, [7; 3]));
+}
+
+/// The tree of Harbour: node 1 is 2 from the root, 2 and 3 are 3 and 1 from node 1, and 4 is 9 from the root.
+const DISTANCES: [[u64; 5]; 5] = [
+    [0, 2, 5, 3, 9],
+    [2, 0, 3, 1, 11],
+    [5, 3, 0, 4, 14],
+    [3, 1, 4, 0, 12],
+    [9, 11, 14, 12, 0],
+];
+
+fn apart(h: &Harbour, from: u16, to: u16) -> Result<u64, Refusal> {
+    distance(&h.links, &h.parents, h.search.root, from, to)
+}
+
+/// The distances of all pairs are those of Harbour's tree.
+fn has_the_distances(h: &Harbour) {
+    for (from, row) in (0..).zip(DISTANCES) {
+        for (to, length) in (0..).zip(row) {
+            assert_eq!(apart(h, from, to), Ok(length), "{from} {to} {h:?}");
+        }
+    }
+}
+
+#[test]
+fn tells_the_distances_of_all_pairs() {
+    has_the_distances(&harbour());
+}
+
+#[test]
+fn who_has_no_route_has_no_distance() {
+    let mut h = harbour();
+    for none in [5, 511, NO_NODE] {
+        assert_eq!(apart(&h, none, 0), refused(8, none as u32));
+        assert_eq!(apart(&h, 0, none), refused(8, none as u32));
+        assert_eq!(apart(&h, none, none), refused(8, none as u32));
+    }
+    assert_eq!(apart(&h, 5, NO_NODE), refused(8, 5));
+    assert_eq!(apart(&h, NO_NODE, 5), refused(8, NO_NODE as u32));
+
+    // Link 5 leads from node 2 to node 3 and back.
+    h.parents[2] = 5;
+    h.parents[3] = 5;
+    assert_eq!(apart(&h, 2, 0), refused(8, 2));
+    assert_eq!(apart(&h, 0, 3), refused(8, 3));
+    assert_eq!(apart(&h, 3, 2), refused(8, 3));
+    assert_eq!(apart(&h, 3, 3), refused(8, 3));
+    assert_eq!(apart(&h, 4, 1), Ok(11));
+
+    h.search.root = 5;
+    assert_eq!(apart(&h, 4, 1), refused(8, 4));
+}
+
+/// Of no node and of one too many, before the nodes are looked at.
+#[test]
+fn a_distance_needs_1_to_512_nodes() {
+    let mut h = harbour();
+    h.parents.resize(NODES, 0);
+    has_the_distances(&h);
+    h.parents.resize(NODES + 1, 0);
+    assert_eq!(apart(&h, 3, 2), refused(1, 0));
+    h.parents.clear();
+    assert_eq!(apart(&h, 3, 2), refused(1, 0));
+    assert_eq!(apart(&h, NO_NODE, 0), refused(1, 0));
+}
+
+type Edit = fn(&mut Harbour);
+
+/// Nothing but the tree is looked at: what the check refuses elsewhere, a depth, an end, a mark, the root's parent link or a
+/// short link, changes no distance.
+#[test]
+fn a_distance_asks_the_tree_alone() {
+    let edits: [(Edit, u32, u32); 5] = [
+        (|h| h.search.depth = 511, 4, 0),
+        (|h| h.links[5 * LINK_NUMBERS] = 3, 5, 5),
+        (|h| h.links[3] = 2, 6, 0),
+        (|h| h.parents[0] = 0, 7, 0),
+        (|h| h.links[5 * LINK_NUMBERS + 2] = 1, 9, 5),
+    ];
+    for (edit, number, place) in edits {
+        let mut h = harbour();
+        edit(&mut h);
+        let checked = check(&h.links, &h.parents, h.search);
+        assert_eq!(checked, refused(number, place));
+        has_the_distances(&h);
+    }
+}
+
+/// No room for the distance is 10, behind 1 and 8. A refusal leaves the row as it is, and a distance what lies past it.
+#[test]
+fn a_row_without_room_for_a_distance_is_refused_in_its_place() {
+    let h = harbour();
+    let ask = |nodes: usize, from: u16, to: u16, row: &mut [u64]| {
+        said(unsafe {
+            raw::doeragyeol_distance(
+                h.links.as_ptr(),
+                h.links.len(),
+                h.parents.as_ptr(),
+                nodes,
+                h.search.root,
+                from,
+                to,
+                row.as_mut_ptr(),
+                row.len(),
+            )
+        })
+    };
+    let mut row = [7; 3];
+    assert_eq!(ask(5, 3, 2, &mut row[..0]), refused(10, 0));
+    for room in [0, 1, 3] {
+        assert_eq!(ask(0, 5, 5, &mut row[..room]), refused(1, 0));
+        assert_eq!(ask(5, 5, 2, &mut row[..room]), refused(8, 5));
+        assert_eq!(ask(5, 3, 6, &mut row[..room]), refused(8, 6));
+        assert_eq!(ask(5, 6, 5, &mut row[..room]), refused(8, 6));
+    }
+    assert_eq!(row, [7; 3]);
+    for room in [1, 3] {
+        let mut row = [7; 3];
+        assert_eq!(ask(5, 3, 2, &mut row[..room]), Ok(()));
+        assert_eq!(row, [4, 7, 7]);
+    }
+}
+
+/// The longest path there is: 511 links of 65,535, with the root at either end or within.
+#[test]
+fn the_longest_distance() {
+    let links: Vec<u16> = (0..511)
+        .flat_map(|e| [e, e + 1, u16::MAX, SERVED])
+        .collect();
+    for root in [0, 256, 511] {
+        let parents: Vec<u16> = (0..512u16)
+            .map(|node| match node {
+                _ if node < root => node,
+                _ if node > root => node - 1,
+                _ => NO_LINK,
+            })
+            .collect();
+        let search = Search { root, depth: WHOLE };
+        assert!(check(&links, &parents, search).is_ok());
+        let apart = |from, to| distance(&links, &parents, root, from, to);
+        assert_eq!(apart(0, 511), Ok(33_488_385));
+        assert_eq!(apart(511, 0), Ok(33_488_385));
+        assert_eq!(apart(511, 511), Ok(0));
+    }
+}
+
+/// The bytes of stack are the header's.
+#[test]
+fn the_stack_of_a_distance_is_the_headers() {
+    let header = include_str!("../../../include/doeragyeol.h");
+    let line = format!("#define DOERAGYEOL_DISTANCE_STACK {DISTANCE_STACK}");
+    assert!(header.lines().any(|one| one == line));
 }
 
 #[test]

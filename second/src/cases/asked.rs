@@ -82,11 +82,15 @@ fn some_node(rng: &mut Rng, rows: &Rows) -> u16 {
 }
 
 /// A random network, sound or with faults, and for ops that do not check it
-/// at times rows that are none; with nodes asked.
+/// at times rows that are none, few or many; with nodes asked.
 pub fn random(rng: &mut Rng, op: u16) -> Case {
     let unchecked = matches!(op, ROUTE | DISTANCE | MEET);
     let case = if unchecked && rng.chance(40) {
-        Case::over(op, &random::wild_rows(rng), random::depth(rng), 0)
+        let rows = match rng.below(8) {
+            0 => random::long_rows(rng),
+            _ => random::wild_rows(rng),
+        };
+        Case::over(op, &rows, random::depth(rng), 0)
     } else {
         networks::random(rng, op)
     };

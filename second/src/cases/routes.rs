@@ -49,6 +49,7 @@ fn scenes() -> Vec<Scene> {
     list.extend(round());
     list.extend(sizes());
     list.extend(longest());
+    list.push(two_chains());
     list.extend(strange_parents());
     list.extend(strange_ends());
     list.extend(not_looked_at());
@@ -109,6 +110,20 @@ fn longest() -> Vec<Scene> {
         (longest_path(0), vec![[last, 0]]),
         (longest_path(MOST_NODES / 2), vec![[0, last]]),
     ]
+}
+
+/// Two chains that lead to a root which is no node: the longest way that a
+/// case can have between two nodes.
+fn two_chains() -> Scene {
+    let (half, most, root) = (MOST_NODES as u16 / 2, MOST_NODES as u16, 600);
+    let above = |x: u16| if x % half == 0 { root } else { x - 1 };
+    let link = |x: u16| [x, above(x), LONGEST, IN_SERVICE];
+    let rows = Rows {
+        parents: (0..most).collect(),
+        links: (0..most).flat_map(link).collect(),
+        root,
+    };
+    (rows, vec![[half - 1, most - 1], [most - 1, half - 1]])
 }
 
 /// Parent links that are no link, withdrawn, or do not touch the node; the

@@ -24,7 +24,7 @@ climb-to-meet-requires : tie.Need-climb-to-meet-requires
 climb-to-meet-requires c κs = ways-known _ _ _ _ _ _ (c .before .before .check-ways .ensures) (c .enum-told .given .1)
 
 returns-2 : tie.Need-returns-2
-returns-2 c = met _ _ _ (sym (c .before .before .before .check-ways .ensures) ∙ c .before .enum-told .given .1) _ (c .climb-to-meet .ensures)
+returns-2 c = met _ _ _ (sym (c .before .before .before .check-ways .ensures) ∙ c .before .enum-told .given .1) _ (c .climb-to-meet .ensures .0)
 
 pub meet-of-spec : {M : Type 1} → statement M
 meet-of-spec =

@@ -1,7 +1,7 @@
 //! `forward FILE START FAILED MEASURE`: prints the way from a start to the root while the tree link of the failed node is down, as
 //! `examples/forward.c` does.
 
-use doeragyeol::program::{measure_of, run, say, Filed, Said};
+use doeragyeol::program::{measure_of, number_of, run, say, Filed, Said};
 use doeragyeol::*;
 use std::ffi::{OsStr, OsString};
 use std::io::Write;
@@ -25,16 +25,10 @@ fn main() -> ExitCode {
 /// What three words ask.
 fn failure_of(start: &OsStr, failed: &OsStr, measure: &OsStr) -> Option<Failure> {
     Some(Failure {
-        start: number_of(&start.to_string_lossy())?,
-        failed: number_of(&failed.to_string_lossy())?,
+        start: number_of(start)?,
+        failed: number_of(failed)?,
         measure: measure_of(&measure.to_string_lossy())?,
     })
-}
-
-/// The number that a word is, where it is one and not too large for a node.
-fn number_of(word: &str) -> Option<u16> {
-    let digits = word.bytes().all(|byte| byte.is_ascii_digit());
-    word.parse().ok().filter(|_| digits)
 }
 
 /// The line of the way, or why it is refused.

@@ -1,5 +1,5 @@
 -- Which of SCOPE's numbers what is asked of the tree alone can give, and no other. Assumes nothing.
-use mathlib.Core.Path.{_≡_, refl}
+use mathlib.Core.Path.{refl}
 use mathlib.Core.List.{List, [], _∷_}
 use Prim.Native.Nat.{ℕ}
 use Rattle.edition.specs.declared.Why.the-variants.{NodeCount, NoRoute, NoRoom}

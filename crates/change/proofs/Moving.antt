@@ -2,19 +2,14 @@
 -- Assumes nothing.
 use mathlib.Core.Path.{_≡_, refl, sym, subst, ap, _∙_}
 use mathlib.Core.Bool.{Bool, true, false, cond, _||_}
-use mathlib.Core.List.{List, [], _∷_}
+use mathlib.Core.List.{List}
 use Prim.Native.Nat.{ℕ, _<_}
 use lib.Dec.{eqb}
 use lib.ListN.{length, getD, set, length-set}
 use lib.Seq.{getD-set-same, getD-set-other}
 use borrow.Author.Tests.{eqb-true, eqb-false}
-use Rattle.rows.specs.Lists.{has, upTo}
 use Rattle.rows.proofs.Tests.{or-none}
-use Rattle.rows.proofs.Listed.{has-append}
-use Rattle.tree.specs.Tree.{Tree, route, under}
-use Rattle.tree.proofs.Ways.{Home, home-up, route-root, under-cut}
-use Rattle.tree.proofs.Climbing.{way-on, start-cut}
-use Rattle.table.specs.Work.{Moved}
+use Rattle.change.specs.Work.{Moved}
 
 pub moved-none : (f : ℕ → ℕ) (done : ℕ → Bool) (row : List ℕ) → ((x : ℕ) → done x ≡ false) → Moved done f row row
 moved-none f done row h = record { size = refl; each = λ x. rw (h x) }
@@ -34,29 +29,3 @@ moved-more f done done′ before after c v m l out h q =
         subst (λ (y : ℕ). getD (set after c v) y 0 ≡ cond (done y || true) (f (getD before y 0)) (getD before y 0)) same
         (rw out (getD-set-same after c v 0 l ∙ q ∙ ap f old))
     go x false e = rw (or-none (done x)) (getD-set-other after c x v 0 (λ z. eqb-false c x e (sym z)) ∙ m .each x)
-
--- the nodes that a climb from u to c has passed
-module _ (t : Tree) (u : ℕ) (hu : Home t u) where
-  abbrev pub passed : ℕ → ℕ → Bool
-  passed c x = has x (upTo c (route t u))
-
-  pub passed-none : (x : ℕ) → has x (upTo u (route t u)) ≡ false
-  unfolding has
-  passed-none x = rw (start-cut t u hu)
-
-  pub passed-more :
-      (c : ℕ)
-      → under t c u ≡ true → eqb c (t .root) ≡ false → (x : ℕ)
-      → has x (upTo (t .up c) (route t u)) ≡ (has x (upTo c (route t u)) || eqb c x)
-  unfolding has
-  passed-more c e r x =
-      ap (has x) (way-on t u hu c e r) ∙ has-append x (upTo c (route t u)) (c ∷ []) ∙
-      ap (λ (b : Bool). has x (upTo c (route t u)) || b) (or-none (eqb c x))
-
-  pub passed-all : (c : ℕ) → under t c u ≡ true → eqb c (t .root) ≡ true → (x : ℕ) → under t x u ≡ (has x (upTo c (route t u)) || eqb c x)
-  unfolding under has
-  passed-all c e r x =
-      under-cut t u c x hu e ∙ ap (λ (b : Bool). has x (upTo c (route t u)) || b) (top-only x)
-    where
-      top-only : (x : ℕ) → under t x c ≡ eqb c x
-      top-only x = ap (has x) (route-root t c (home-up t u c hu e) r) ∙ or-none (eqb c x)
