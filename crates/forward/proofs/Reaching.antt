@@ -1,21 +1,21 @@
 -- The climb to x or the root: where it ends, and that nothing it counts is large. Assumes nothing.
-use mathlib.Core.Path.{_≡_, refl, sym, ap, subst, _∙_}
+use mathlib.Core.Path.{_≡_, refl, sym, subst, _∙_}
 use mathlib.Core.Bool.{Bool, true, false, cond, _||_}
 use mathlib.Core.List.{List, [], _∷_}
 use Prim.Native.Nat.{ℕ, _*_, _<_, _≤_}
 use native.Mathlib.Omega.{arith}
 use lib.Dec.{eqb}
-use lib.ListN.{length, getD}
+use lib.ListN.{getD}
 use borrow.Author.Tests.{eqb-true, eqb-false, eq-eqb, ne-eqb}
 use Rattle.edition.specs.declared.Search.{Search}
 use Rattle.edition.specs.Limits.{nodeLimit, longest}
 use Rattle.rows.specs.Lists.{has, upTo}
 use Rattle.rows.proofs.Tests.{clash, either, or-right, or-none}
-use Rattle.rows.proofs.Listed.{total-bound}
 use Rattle.network.specs.Network.{netOf}
 use Rattle.tree.specs.declared.Climb.{Climb}
-use Rattle.tree.specs.Tree.{Tree, route, under, hops, wayUp}
-use Rattle.tree.proofs.Ways.{Home, way, way-head, home-up, hops-cut, above-root, under-cut, under-root, route-length}
+use Rattle.tree.specs.Tree.{Tree, route, under}
+use Rattle.tree.proofs.Ways.{Home, above-root, under-cut, under-root}
+use Rattle.tree.proofs.Climbing.{along-few, along-short}
 use Rattle.tree.proofs.InRows.{treeIn, root-in, few}
 use Rattle.tree.proofs.Onto.{Onto}
 use Rattle.forward.specs.Work.{Node, Reached}
@@ -75,21 +75,10 @@ module _ (links parents : List ℕ) (search : Search) (held : (i : ℕ) → getD
         go false p false q = at-end (eqb-false (c .node) x q)
 
     hops-few : c .hops < nodeLimit
-    hops-few =
-        omega (
-          arith,
-          o .along .hops-is,
-          hops-cut t u (c .node) hu on,
-          route-length t u,
-          size-few (netOf links parents search) n,
-          ap length (way-head t (way t (c .node) (home-up t u (c .node) hu on)) .1),
-        )
+    hops-few = omega (arith, along-few t u hu c (o .along), size-few (netOf links parents search) n)
 
     dist-small : c .dist ≤ nodeLimit * longest
-    unfolding wayUp hops
-    dist-small =
-        let far = total-bound (t .rise) longest (few links parents search held) (upTo (c .node) (route t u)) in
-        omega (arith, o .along .dist-is, o .along .hops-is, hops-few)
+    dist-small = omega (arith, along-short t u hu c (o .along) (few links parents search held), hops-few)
 
     reached-top : Reached t x u c
     reached-top = record { along = o .along; here = here-is; few = hops-few; small = dist-small }

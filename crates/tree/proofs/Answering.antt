@@ -33,7 +33,6 @@ use Rattle.tree.specs.Work.{Rooted, Routed}
 use Rattle.tree.proofs.Ways.{Way, top, hop, Home, way, nodes-of, route-length}
 use Rattle.tree.proofs.Climbing.{climb-root, climb-up}
 use Rattle.network.proofs.Sizes.{nodes-within}
-use Rattle.tree.proofs.InRows.{few}
 
 -- n is within the limit
 pub few-nodes : (n : ℕ) → badNodes memoryLimits n ≡ false → n ≤ nodeLimit

@@ -153,6 +153,26 @@ module _ (t : Tree) where
       let z = or-false (eqb u x) (has x a) h in
       upTo-past u x (a ++ (x ∷ b)) (z .0) ∙ ap (λ (l : List ℕ). u ∷ l) (upTo-last a b x (z .1))
 
+  -- a way up is no longer than its hops can be
+  way-small : ((v : ℕ) → t .rise v ≤ longest) → (u x : ℕ) → wayUp t x u ≤ hops t x u * longest
+  unfolding wayUp hops
+  way-small few u x = total-bound (t .rise) longest few (upTo x (route t u))
+
+  -- what the cursor has counted at most
+  module _ (u : ℕ) (hu : Home t u) (c : Climb) (a : Along t u c) where
+    pub along-few : c .hops < t .size
+    along-few =
+        omega (
+          arith,
+          a .hops-is,
+          hops-cut t u (c .node) hu (a .on),
+          route-length t u,
+          ap length (way-head t (way t (c .node) (home-up t u (c .node) hu (a .on))) .1),
+        )
+
+    pub along-short : ((v : ℕ) → t .rise v ≤ longest) → c .dist ≤ c .hops * longest
+    along-short few = omega (arith, a .hops-is, a .dist-is, way-small few u (c .node))
+
   module _ (u : ℕ) (hu : Home t u) (x : ℕ) (px : under t x u ≡ true) (nx : eqb x (t .root) ≡ false) where
     hx : Home t x
     hx = home-up t u x hu px
@@ -205,10 +225,6 @@ module _ (t : Tree) where
     hops-small : hops t x u + 1 ≤ t .size
     hops-small = omega (arith, hops-cut t u x hu px, route-length t u, shorter)
 
-    way-small : ((v : ℕ) → t .rise v ≤ longest) → wayUp t x u ≤ hops t x u * longest
-    unfolding wayUp hops
-    way-small few = total-bound (t .rise) longest few (upTo x (route t u))
-
     -- a step of the cursor
     pub along-step :
         t .size ≤ nodeLimit
@@ -216,7 +232,7 @@ module _ (t : Tree) where
         → Along t u d
     unfolding stepped
     along-step s few c e a d q =
-        let far = way-small few in
+        let far = way-small few u x in
         let h : c .hops ≡ hops t x u = a .hops-is ∙ ap (λ (v : ℕ). hops t v u) e in
         let w : c .dist ≡ wayUp t x u = a .dist-is ∙ ap (λ (v : ℕ). wayUp t v u) e in
         let one = kept (c .hops + 1) (omega (arith, hops-small)) in

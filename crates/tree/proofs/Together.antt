@@ -4,7 +4,6 @@ use mathlib.Core.Path.{_≡_, refl, ap}
 use mathlib.Core.Bool.{false}
 use mathlib.Core.List.{List}
 use Prim.Native.Nat.{ℕ, _+_, _*_, _<_, _≤_}
-use native.Mathlib.Nat.{mul-le-mul-right}
 use native.Mathlib.Omega.{arith}
 use lib.ListN.{length, getD}
 use Rattle.edition.specs.declared.Search.{Search}
@@ -13,10 +12,9 @@ use Rattle.tree.specs.declared.Climb.{Climb}
 use Rattle.tree.specs.Tree.{Tree, route, under, meet, apart}
 use Rattle.tree.specs.Answers.{begun, stepped}
 use Rattle.tree.specs.Work.{Rooted, Along}
-use Rattle.tree.proofs.Ways.{Home, home-up, nodes-of, route-length, hops-cut, dist-cut}
-use Rattle.tree.proofs.Climbing.{along-start, along-step, shorter}
+use Rattle.tree.proofs.Ways.{Home, home-up, nodes-of, route-length, hops-cut}
+use Rattle.tree.proofs.Climbing.{along-start, along-step, along-few, along-short, shorter}
 use Rattle.tree.proofs.InRows.{treeIn, size-in, few}
-use Rattle.tree.proofs.Answering.{dist-small}
 use Rattle.tree.proofs.TwoClimbs.{TwoClimbs, climbs-start, climbs-turn, climbs-next, climbs-below, climbs-meet, climbs-apart, longer-not-above}
 
 -- one cursor: where it began has a route of so many hops, and it is on its climb
@@ -51,7 +49,7 @@ together-start links parents search held small u z hu hz high low a b rh rl p q 
     }
 
 module _ {t : Tree} where
-  -- how many nodes the route has from where a cursor is, and how many it can have passed
+  -- how many nodes the route has from where a cursor is, and what can have been counted
   module _ {u : ℕ} {whole a : Climb} (c : Cursor t u whole a) where
     left-is : length (route t (a .node)) + a .hops ≡ whole .hops + 1
     left-is =
@@ -66,15 +64,11 @@ module _ {t : Tree} where
     whole-few : whole .hops + 1 ≤ t .size
     whole-few = omega (arith, c .rooted .hops-is, nodes-of t u (c .home), route-length t u)
 
-    dist-few : ((v : ℕ) → t .rise v ≤ longest) → t .size ≤ nodeLimit → a .dist ≤ nodeLimit * longest
-    dist-few flat small =
-        omega (
-          arith,
-          c .along .dist-is,
-          dist-cut t u (a .node) (c .home) (c .along .on),
-          dist-small t longest flat u,
-          mul-le-mul-right longest small,
-        )
+    hops-small : a .hops < t .size
+    hops-small = along-few t u (c .home) a (c .along)
+
+    dist-small : ((v : ℕ) → t .rise v ≤ longest) → t .size ≤ nodeLimit → a .dist ≤ nodeLimit * longest
+    dist-small flat small = omega (arith, along-short t u (c .home) a (c .along) flat, hops-small)
 
   module _ {u z : ℕ} {high low a b : Climb} (w : Together t u z high low a b) where
     -- what is said of the first cursor holds of the second too
@@ -87,10 +81,10 @@ module _ {t : Tree} where
         let p = whole-few (w .one) in
         let q = whole-few (w .two) in
         let s = w .small in
-        (omega arith, omega arith, omega (arith, left-is (w .one)), omega (arith, left-is (w .two)))
+        (omega arith, omega arith, omega (arith, hops-small (w .one)), omega (arith, hops-small (w .two)))
 
     pub lengths-few : (a .dist ≤ nodeLimit * longest) × (b .dist ≤ nodeLimit * longest)
-    lengths-few = (dist-few (w .one) (w .flat) (w .small), dist-few (w .two) (w .flat) (w .small))
+    lengths-few = (dist-small (w .one) (w .flat) (w .small), dist-small (w .two) (w .flat) (w .small))
 
     -- what they tell where they have come to one node
     pub met-told : a .node ≡ b .node → (a .node ≡ meet t u z) × (a .dist + b .dist ≡ apart t u z)
