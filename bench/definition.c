@@ -10,10 +10,10 @@ struct tree {
     uint32_t t[NODES][NODES];
 };
 
-// Refusals 1 to 7.
+// Refusals 1 to 4, 14, and 5 to 7.
 static int good_records(const struct network *net)
 {
-    if (net->n == 0 || net->root >= net->n || (net->depth > DEPTH && net->depth != MARK))
+    if (net->n == 0 || net->root >= net->n || (net->depth > DEPTH && net->depth != MARK) || net->rule > NEARER_FIRST)
         return 0;
     for (size_t e = 0; e < net->m; e++) {
         struct link l = net->links[e];
@@ -100,10 +100,18 @@ static void costs(const struct tree *tree, const size_t *below, size_t size, siz
     }
 }
 
-// The entry of x, which is not the root.
+// Whether a candidate is better under measure k than the one taken before it, which has the lower number: it costs less, or as
+// much and under rule 1 less by incr.
+static int better(size_t rule, size_t k, const uint64_t cost[3], const uint64_t taken[3])
+{
+    return cost[k] < taken[k] || (rule == NEARER_FIRST && cost[k] == taken[k] && cost[1] < taken[1]);
+}
+
+// The entry of x, which is not the root. Beside it stand all costs of the candidate taken under each measure.
 static void search(const struct network *net, const struct tree *tree, size_t x, uint64_t *entry)
 {
     size_t below[NODES], size = 0;
+    uint64_t taken[3][3] = {{0}};
     char inside[NODES];
     for (size_t i = 0; i < net->n; i++) {
         size_t u = tree->order[i];
@@ -124,7 +132,8 @@ static void search(const struct network *net, const struct tree *tree, size_t x,
         uint64_t cost[3];
         costs(tree, below, size, z, other, l.length, cost);
         for (size_t k = 0; k < 3; k++)
-            if (entry[0] != SWAP || cost[k] < entry[4 + k]) {
+            if (entry[0] != SWAP || better(net->rule, k, cost, taken[k])) {
+                memcpy(taken[k], cost, sizeof cost);
                 entry[1 + k] = e;
                 entry[4 + k] = cost[k];
                 entry[7 + k] = inside[l.first] ? FIRST_END : SECOND_END;

@@ -6,7 +6,7 @@
 #include "doeragyeol.h"
 #include "paint.h"
 
-enum { OP = 102, HEAD = 11, PARENTS = 600, LINKS = 8400, ROOM = 3, BEHIND = 1 };
+enum { OP = 102, HEAD = 12, PARENTS = 600, LINKS = 8400, ROOM = 3, BEHIND = 1 };
 
 // What the call is lent and given: rows and how many numbers of each, the root, two nodes.
 struct lent {

@@ -1,12 +1,13 @@
 // A network with its tree in memory, and the form in which the programs here read one.
 //
-// Input: 16-bit words, high byte first: n, m, root, depth, times; n parents; m links of four words, two ends, length, mark; the
-// job: 0 the table, 1 the change of a link, 2 the write of a file, 3 the read of one.
+// Input: 16-bit words, high byte first: n, m, root, depth, times, tie rule; n parents; m links of four words, two ends, length,
+// mark; the job: 0 the table, 1 the change of a link, 2 the write of a file, 3 the read of one.
 #include <stdint.h>
 #include <stdio.h>
 
-enum { NODES = 512, LINKS = 2048, DEPTH = 510, ENTRY = 10, MARK = 65535, HEAD = 5, WORDS = HEAD + NODES + 4 * LINKS + 1 };
+enum { NODES = 512, LINKS = 2048, DEPTH = 510, ENTRY = 10, MARK = 65535, HEAD = 6, WORDS = HEAD + NODES + 4 * LINKS + 1 };
 enum { TABLE_JOB, CHANGE_JOB, WRITE_JOB, READ_JOB };
+enum { LOWEST_NUMBER = 0, NEARER_FIRST = 1 };
 
 struct link {
     uint16_t first, second, length, mark;
@@ -14,7 +15,7 @@ struct link {
 
 // A network with its tree, and the search asked for.
 struct network {
-    size_t n, m, root, depth;
+    size_t n, m, root, depth, rule;
     uint16_t parents[NODES];
     struct link links[LINKS];
 };
@@ -36,6 +37,7 @@ static int read_network(FILE *file, struct network *net, size_t *times, size_t *
     net->root = word(bytes, 2);
     net->depth = word(bytes, 3);
     *times = word(bytes, 4);
+    net->rule = word(bytes, 5);
     if (net->n > NODES || net->m > LINKS || got != 2 * (HEAD + net->n + 4 * net->m + 1))
         return 0;
     size_t at = HEAD;

@@ -1,5 +1,5 @@
-// The functions of libpainted.a, crates/painted: each calls one public function of a layer and answers a number made of its
-// answer. A row is a pointer and then how many numbers it has.
+// The functions of libpainted.a, crates/painted: each calls one public function of a layer, by tie rule 1 where that takes one, and
+// answers a number made of its answer. A row is a pointer and then how many numbers it has.
 #include <stddef.h>
 #include <stdint.h>
 

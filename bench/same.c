@@ -21,7 +21,7 @@ static size_t other_end(struct link l, size_t u)
     return l.first == u ? l.second : l.first;
 }
 
-// Refusals 1 to 7.
+// Refusals 1 to 7, but for 14.
 static int good_records(const struct network *net)
 {
     if (net->n == 0 || net->n > NODES || net->m > LINKS || net->root >= net->n || (net->depth > DEPTH && net->depth != MARK))
@@ -116,7 +116,7 @@ static int keeps_short(uint64_t p, uint64_t q, uint64_t w)
     return (p < q ? q - p : p - q) <= w;
 }
 
-// Refusals 1 to 9, and the survey.
+// Refusals 1 to 9, but for 14, and the survey.
 static int survey_network(const struct network *net, struct known *survey)
 {
     uint16_t order[NODES];
@@ -150,10 +150,27 @@ HOT struct side step_side(const struct known *survey, struct side s)
     return (struct side){x->up, s.hops + 1, s.lower, s.near, s.turn, larger(s.reach, way)};
 }
 
-// The better of a swap link under measure k, where there is one yet, and a candidate, kept in the entry.
-HOT void keep(uint64_t *entry, size_t k, int had, uint64_t e, uint64_t price, uint64_t lower)
+// What a swap link costs node x by incr: the way through it less twice the distance of x.
+HOT uint64_t incr_of(const struct network *net, const struct known *survey, size_t x, uint64_t e)
 {
-    if (!had || price < entry[4 + k]) {
+    struct link l = net->links[e];
+    return survey[l.first].near + l.length + survey[l.second].near - 2 * survey[x].near;
+}
+
+// Whether the swap link under measure k stays, where a candidate of a higher number costs no less by incr than the swap link under
+// incr does: the candidate costs more; or as much, by rule 0 or where the two swap links are one.
+HOT int stays(const uint64_t *entry, size_t k, uint64_t price, size_t rule)
+{
+    return price > entry[4 + k] || (price == entry[4 + k] && (rule != NEARER_FIRST || entry[1 + k] == entry[2]));
+}
+
+// The better of node x's swap link under measure k, where there is one yet, and a candidate of a higher number, kept in the entry.
+// The candidate costs less; or as much and, by rule 1, less by incr: what the swap link costs by incr is looked up only then.
+HOT void keep(const struct network *net, size_t rule, const struct known *survey, size_t x, uint64_t *entry, size_t k, int had,
+    uint64_t e, uint64_t price, uint64_t incr, uint64_t lower)
+{
+    if (!had || price < entry[4 + k]
+        || (price == entry[4 + k] && rule == NEARER_FIRST && incr < incr_of(net, survey, x, entry[1 + k]))) {
         entry[1 + k] = e;
         entry[4 + k] = price;
         entry[7 + k] = lower;
@@ -168,8 +185,8 @@ HOT uint32_t own_rank(const struct known *survey, size_t x)
     return (uint32_t)(survey[x].count * STEP + x + 1);
 }
 
-// Offers link e to the node where the climb is, where that node is asked for.
-HOT void offer_at(const struct network *net, const struct known *survey, const uint32_t *ranks, uint64_t *entries,
+// Offers link e to the node where the climb is, where that node is asked for. Under incr both rules keep the same.
+HOT void offer_at(const struct network *net, size_t rule, const struct known *survey, const uint32_t *ranks, uint64_t *entries,
     struct side s, size_t e, uint64_t k)
 {
     if (ranks[s.node] % STEP != s.node + 1)
@@ -178,7 +195,7 @@ HOT void offer_at(const struct network *net, const struct known *survey, const u
     uint64_t sum = x->base + x->count * k - s.turn, incr = k - 2 * x->near, max = s.reach + (k - s.near);
     uint64_t *entry = entries + s.node * ENTRY;
     int had = entry[0] == SWAP;
-    if (had && sum >= entry[4] && incr >= entry[5] && max >= entry[6])
+    if (had && incr >= entry[5] && stays(entry, 0, sum, rule) && stays(entry, 2, max, rule))
         return;
     if (net->depth != MARK && s.hops > net->depth) {
         if (!had)
@@ -186,14 +203,15 @@ HOT void offer_at(const struct network *net, const struct known *survey, const u
         return;
     }
     entry[0] = SWAP;
-    keep(entry, 0, had, e, sum, s.lower);
-    keep(entry, 1, had, e, incr, s.lower);
-    keep(entry, 2, had, e, max, s.lower);
+    keep(net, rule, survey, s.node, entry, 0, had, e, sum, incr, s.lower);
+    keep(net, LOWEST_NUMBER, survey, s.node, entry, 1, had, e, incr, incr, s.lower);
+    keep(net, rule, survey, s.node, entry, 2, had, e, max, incr, s.lower);
 }
 
 // Offers link e to every node asked for that it crosses, by a climb from each end up to where both have the same rank. The one
 // whose anchor has fewer nodes below it goes on.
-static void offer_link(const struct network *net, const struct known *survey, const uint32_t *ranks, uint64_t *entries, size_t e)
+static void offer_link(const struct network *net, size_t rule, const struct known *survey, const uint32_t *ranks,
+    uint64_t *entries, size_t e)
 {
     struct link l = net->links[e];
     if (l.mark != 1 || net->parents[l.first] == e || net->parents[l.second] == e || ranks[l.first] == ranks[l.second])
@@ -202,17 +220,17 @@ static void offer_link(const struct network *net, const struct known *survey, co
     struct side a = begin_side(survey, l.first, FIRST_END), b = begin_side(survey, l.second, SECOND_END);
     while (ranks[a.node] != ranks[b.node]) {
         if (ranks[b.node] / STEP < ranks[a.node] / STEP) {
-            offer_at(net, survey, ranks, entries, b, e, k);
+            offer_at(net, rule, survey, ranks, entries, b, e, k);
             b = step_side(survey, b);
         } else {
-            offer_at(net, survey, ranks, entries, a, e, k);
+            offer_at(net, rule, survey, ranks, entries, a, e, k);
             a = step_side(survey, a);
         }
     }
 }
 
 // The entries of the nodes that are asked for, afresh.
-static void refresh(const struct network *net, const struct known *survey, const uint32_t *ranks, uint64_t *entries)
+static void refresh(const struct network *net, size_t rule, const struct known *survey, const uint32_t *ranks, uint64_t *entries)
 {
     for (size_t x = 0; x < net->n; x++)
         if (ranks[x] % STEP == x + 1) {
@@ -222,10 +240,11 @@ static void refresh(const struct network *net, const struct known *survey, const
             entry[4] = entry[5] = entry[6] = entry[7] = entry[8] = entry[9] = 0;
         }
     for (size_t e = 0; e < net->m; e++)
-        offer_link(net, survey, ranks, entries, e);
+        offer_link(net, rule, survey, ranks, entries, e);
 }
 
-static int table(const struct network *net, uint64_t *entries)
+// The table by a tie rule.
+static int table_by(const struct network *net, size_t rule, uint64_t *entries)
 {
     struct known survey[NODES];
     uint32_t ranks[NODES];
@@ -233,8 +252,19 @@ static int table(const struct network *net, uint64_t *entries)
         return 0;
     for (size_t x = 0; x < net->n; x++)
         ranks[x] = own_rank(survey, x);
-    refresh(net, survey, ranks, entries);
+    refresh(net, rule, survey, ranks, entries);
     return 1;
+}
+
+// Refusal 14.
+static int good_rule(const struct network *net)
+{
+    return net->rule <= NEARER_FIRST;
+}
+
+static int table(const struct network *net, uint64_t *entries)
+{
+    return good_rule(net) && table_by(net, net->rule, entries);
 }
 
 // The nodes on the route of u are asked for where they were not, and no longer where they were.
@@ -264,7 +294,7 @@ static int change(struct network *net, uint64_t *entries, size_t e, unsigned mar
     struct known survey[NODES];
     uint32_t ranks[NODES];
     uint8_t asked[NODES];
-    if (!survey_network(net, survey) || net->m <= e || mark > 1)
+    if (!good_rule(net) || !survey_network(net, survey) || net->m <= e || mark > 1)
         return 0;
     for (size_t u = 0; u < net->n; u++)
         if (net->parents[u] == e)
@@ -278,7 +308,7 @@ static int change(struct network *net, uint64_t *entries, size_t e, unsigned mar
     fill_ranks(survey, net->n, net->root, asked, ranks);
     l->length = (uint16_t)length;
     l->mark = (uint16_t)mark;
-    refresh(net, survey, ranks, entries);
+    refresh(net, net->rule, survey, ranks, entries);
     return 1;
 }
 
@@ -375,10 +405,11 @@ static void write_block(const struct network *net, const uint64_t *entries, size
     put(block + 6, check_of(block), 2);
 }
 
+// A file has the table of rule 0.
 static size_t write_file(const struct network *net, uint8_t *file)
 {
     static uint64_t entries[NODES * ENTRY];
-    if (!table(net, entries))
+    if (!table_by(net, LOWEST_NUMBER, entries))
         return 0;
     size_t count = block_count(net->n, net->m);
     for (size_t i = 0; i < count; i++)
@@ -415,6 +446,7 @@ static int read_file(const uint8_t *file, size_t size, struct network *net, uint
     own.m = two(file + FRONT + 2);
     own.root = two(file + FRONT + 4);
     own.depth = two(file + FRONT + 6);
+    own.rule = LOWEST_NUMBER;
     if (own.n == 0 || own.n > NODES || own.m > LINKS || size != block_count(own.n, own.m) * BLOCK)
         return 0;
     for (size_t i = 0; i < size / BLOCK; i++) {
@@ -433,7 +465,7 @@ static int read_file(const uint8_t *file, size_t size, struct network *net, uint
             }
         }
     }
-    if (!table(&own, row))
+    if (!table_by(&own, own.rule, row))
         return 0;
     size_t before = 1 + blocks_for(LINKS_A_BLOCK, own.m);
     for (size_t x = 0; x < own.n; x++) {

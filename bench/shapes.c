@@ -1,8 +1,10 @@
-// shapes SHAPE N M TIMES JOB: writes a network of this shape (tree, grid, path, star) in the form that network.h describes. The
-// same words give the same network. `shapes SHAPE N M height 0` prints the height of its tree instead.
+// shapes SHAPE N M TIMES JOB RULE: writes a network of this shape (tree, grid, path, star, even) in the form that network.h
+// describes. The same words give the same network. `shapes SHAPE N M height 0 0` prints the height of its tree instead.
 //
 // Nodes and links are numbered at random. Tree links are 1 to 100 long. Every other link is as long as its ends' distances
-// differ or up to 99 more, so that the tree is a shortest-path tree. All are in service, and the search is whole.
+// differ or up to 99 more, so that the tree is a shortest-path tree. In `even`, a grid on which candidates often tie, tree links
+// are 1 long, and every other link is as long as its ends' distances differ, but at least 1. All are in service, and the search
+// is whole.
 #include <stdint.h>
 #include <stdio.h>
 #include <stdlib.h>
@@ -47,6 +49,7 @@ static unsigned parent(char shape, unsigned n, unsigned u)
     case 't':
         return below(u);
     case 'g':
+    case 'e':
         return u < width(n) ? u - 1 : u - width(n);
     case 'p':
         return u - 1;
@@ -58,11 +61,19 @@ static unsigned parent(char shape, unsigned n, unsigned u)
 // Whether a link outside the tree may join two places: any two, but in a grid only neighbours, across corners too.
 static int joins(char shape, unsigned n, unsigned p, unsigned q)
 {
-    if (shape != 'g')
+    if (shape != 'g' && shape != 'e')
         return p != q;
     unsigned w = width(n);
     int rows = abs((int)(p / w) - (int)(q / w)), columns = abs((int)(p % w) - (int)(q % w));
     return p != q && rows <= 1 && columns <= 1;
+}
+
+// How long a link outside the tree is: its ends' distances differ by so much, and a tree link in its place would be w long.
+static unsigned length(char shape, unsigned differ, unsigned w)
+{
+    if (shape == 'e')
+        return differ < w ? w : differ;
+    return differ + w - 1;
 }
 
 static void put(unsigned word)
@@ -74,7 +85,7 @@ static void put(unsigned word)
 int main(int count, char **words)
 {
     static unsigned node[NODES], number[LINKS], parents[NODES], hops[NODES], d[NODES], links[LINKS][3];
-    if (count != 6)
+    if (count != 7)
         return 2;
     char shape = words[1][0];
     unsigned n = (unsigned)atoi(words[2]), m = (unsigned)atoi(words[3]), height = 0;
@@ -84,7 +95,7 @@ int main(int count, char **words)
     shuffle(number, m);
     parents[node[0]] = MARK;
     for (unsigned e = 0; e < m; e++) {
-        unsigned p = e + 1, q, w = 1 + below(100);
+        unsigned p = e + 1, q, w = shape == 'e' ? 1 : 1 + below(100);
         if (p < n) {
             q = parent(shape, n, p);
             d[p] = d[q] + w;
@@ -96,7 +107,7 @@ int main(int count, char **words)
                 p = below(n);
                 q = below(n);
             } while (!joins(shape, n, p, q));
-            w += (d[p] < d[q] ? d[q] - d[p] : d[p] - d[q]) - 1;
+            w = length(shape, d[p] < d[q] ? d[q] - d[p] : d[p] - d[q], w);
         }
         memcpy(links[number[e]], (unsigned[3]){node[p], node[q], w}, sizeof links[0]);
     }
@@ -109,6 +120,7 @@ int main(int count, char **words)
     put(node[0]);
     put(MARK);
     put((unsigned)atoi(words[4]));
+    put((unsigned)atoi(words[6]));
     for (unsigned u = 0; u < n; u++)
         put(parents[u]);
     for (unsigned e = 0; e < m; e++) {

@@ -11,7 +11,7 @@ enum { BLOCK = 512, SURVEY = 7 * NODES };
 // What a call is lent and given: a network, rows, a file and a block of it, nodes, and a change. Where room is 0, the rows
 // besides the network's have none.
 struct lent {
-    uint16_t links[DOERAGYEOL_LINKS_ROW], parents[NODES + 1], root, depth;
+    uint16_t links[DOERAGYEOL_LINKS_ROW], parents[NODES + 1], root, depth, rule;
     size_t n, m, room, u, z;
     uint64_t entries[DOERAGYEOL_ENTRIES_ROW], marks[NODES], row[NODES], survey[SURVEY], words[DOERAGYEOL_MAP_WORDS], told[DOERAGYEOL_HEADER];
     size_t route[NODES];
@@ -24,13 +24,14 @@ struct lent {
 #define LINKS_LENT l->links, l->m * DOERAGYEOL_LINK_NUMBERS
 #define TREE LINKS_LENT, l->parents, l->n, l->root
 #define NET TREE, l->depth
+#define RULED NET, l->rule
 #define ROW(row) l->row, l->room * (sizeof l->row / sizeof *l->row)
 #define FRONT l->kind, l->number, l->used
 #define BYTES l->file + l->block, l->room * BLOCK
 #define STORED l->file, l->file_length, ROW(links), ROW(parents), ROW(entries)
 #define CHANGE l->link, l->mark, l->length
 #define DISTANCE l->told, l->room * DOERAGYEOL_DISTANCE
-#define LIST NET, l->start, l->failed, ROW(ordinary), ROW(detour)
+#define LIST l->start, l->failed, ROW(ordinary), ROW(detour)
 
 // The calls by layers: what each is called, the function, and what it is given.
 #define CALLS(CALL)                                                                                              \
@@ -71,17 +72,17 @@ struct lent {
     CALL("change::check_change", painted_check_change, NET, ROW(entries), CHANGE)                                \
     CALL("change::change", painted_change, NET, ROW(entries), CHANGE)                                            \
     CALL("map::unprotected_map", painted_unprotected_map, NET, ROW(words))                                       \
-    CALL("forward::fill", painted_forward_fill, LIST)                                                            \
-    CALL("forward::forward", painted_forward, LIST)                                                              \
-    CALL("doeragyeol_check", doeragyeol_check, NET, ROW(told))                                                   \
-    CALL("doeragyeol_table", doeragyeol_table, NET, ROW(entries))                                                \
-    CALL("doeragyeol_map", doeragyeol_map, NET, ROW(words), ROW(told))                                           \
-    CALL("doeragyeol_change", doeragyeol_change, NET, ROW(entries), CHANGE)                                      \
+    CALL("forward::fill", painted_forward_fill, NET, LIST)                                                       \
+    CALL("forward::forward", painted_forward, NET, LIST)                                                         \
+    CALL("doeragyeol_check", doeragyeol_check, RULED, ROW(told))                                                 \
+    CALL("doeragyeol_table", doeragyeol_table, RULED, ROW(entries))                                              \
+    CALL("doeragyeol_map", doeragyeol_map, RULED, ROW(words), ROW(told))                                         \
+    CALL("doeragyeol_change", doeragyeol_change, RULED, ROW(entries), CHANGE)                                    \
     CALL("doeragyeol_write", doeragyeol_write, NET, ROW(file), ROW(told))                                        \
     CALL("doeragyeol_read", doeragyeol_read, STORED, ROW(told))                                                  \
-    CALL("doeragyeol_forward_sum", doeragyeol_forward_sum, LIST, ROW(told))                                      \
-    CALL("doeragyeol_forward_incr", doeragyeol_forward_incr, LIST, ROW(told))                                    \
-    CALL("doeragyeol_forward_max", doeragyeol_forward_max, LIST, ROW(told))                                      \
+    CALL("doeragyeol_forward_sum", doeragyeol_forward_sum, RULED, LIST, ROW(told))                               \
+    CALL("doeragyeol_forward_incr", doeragyeol_forward_incr, RULED, LIST, ROW(told))                             \
+    CALL("doeragyeol_forward_max", doeragyeol_forward_max, RULED, LIST, ROW(told))                               \
     CALL("doeragyeol_distance", doeragyeol_distance, TREE, l->start, (uint16_t)l->z, DISTANCE)
 
 #define RUN(name, function, ...)                   \
@@ -154,16 +155,18 @@ static size_t spare(const struct network *net)
     return e;
 }
 
-// Lends a network: its rows, its table, its file with the last block, its lowest node twice, which is cut off by the failure of the
-// topmost one above it, and a change of a link outside the tree to what it is. Answers 0 where the network is refused.
+// Lends a network: its rows, its tie rule, its table, its file with the last block, its lowest node twice, which is cut off by the
+// failure of the topmost one above it, and a change of a link outside the tree to what it is. Answers 0 where the network is
+// refused.
 static int lend(struct lent *l, const struct network *net)
 {
     *l = (struct lent){.n = net->n, .m = net->m, .root = (uint16_t)net->root, .depth = (uint16_t)net->depth, .room = 1};
+    l->rule = (uint16_t)net->rule;
     memcpy(l->links, net->links, net->m * sizeof *net->links);
     memcpy(l->parents, net->parents, net->n * sizeof *net->parents);
     for (size_t u = 0; u < NODES; u++)
         l->marks[u] = 1;
-    if (doeragyeol_table(NET, ROW(entries)) != DOERAGYEOL_DONE)
+    if (doeragyeol_table(RULED, ROW(entries)) != DOERAGYEOL_DONE)
         return 0;
     if (doeragyeol_write(NET, ROW(file), ROW(told)) != DOERAGYEOL_DONE)
         return 0;
@@ -186,6 +189,16 @@ static void as_it_is(struct lent *l)
 static void one_deep(struct lent *l)
 {
     l->depth = 1;
+}
+
+static void nearer_first(struct lent *l)
+{
+    l->rule = DOERAGYEOL_NEARER_FIRST;
+}
+
+static void no_rule(struct lent *l)
+{
+    l->rule = DOERAGYEOL_NEARER_FIRST + 1;
 }
 
 static void at_the_root(struct lent *l)
@@ -254,8 +267,8 @@ static void no_length(struct lent *l)
 }
 
 // The ways in which a network is lent.
-static void (*const ways[])(struct lent *) = {as_it_is, one_deep, at_the_root, no_node, too_many_nodes, cycle, no_room,
-    first_block, second_block, damaged, tree_link, out_of_service, no_length};
+static void (*const ways[])(struct lent *) = {as_it_is, one_deep, nearer_first, no_rule, at_the_root, no_node, too_many_nodes,
+    cycle, no_room, first_block, second_block, damaged, tree_link, out_of_service, no_length};
 
 // How far each call reaches on a network, where that is more than on those before.
 static void measure(const struct lent *given, size_t *most)

@@ -1,8 +1,9 @@
 /*
  * forward FILE START FAILED MEASURE: prints the way from a start to the root while the tree link of the failed node is down,
  * in the network of a stored file: `ordinary` or `detour`, the nodes in the order of passing, then `length` and how long the
- * way is. MEASURE is sum, incr or max. A file or a way that is refused prints `FILE: refused N P` on standard error and ends
- * with 1; words that are not of this form, a file that cannot be read, or a line that cannot be printed, end with 2.
+ * way is. MEASURE is sum, incr or max; the tie rule is the one that a stored file means. A file or a way that is refused
+ * prints `FILE: refused N P` on standard error and ends with 1; words that are not of this form, a file that cannot be read,
+ * or a line that cannot be printed, end with 2.
  */
 #include "filed.h"
 #include "words.h"
@@ -15,7 +16,7 @@ static uint16_t detour[DOERAGYEOL_ROUTE_ROW];
 static uint64_t way[DOERAGYEOL_WAY];
 
 typedef uint32_t forwarder(const uint16_t *, size_t, const uint16_t *, size_t, uint16_t, uint16_t, uint16_t, uint16_t,
-                           uint16_t *, size_t, uint16_t *, size_t, uint64_t *, size_t);
+                           uint16_t, uint16_t *, size_t, uint16_t *, size_t, uint64_t *, size_t);
 
 /* The measures: their names, and the call under each. */
 static const struct measure {
@@ -60,8 +61,8 @@ int main(int count, char **words)
     if (ended != 0)
         return ended;
     uint32_t word = forward(links, header[1] * DOERAGYEOL_LINK_NUMBERS, parents, header[0], (uint16_t)header[2],
-                            (uint16_t)header[3], (uint16_t)start, (uint16_t)failed, ordinary, DOERAGYEOL_ROUTE_ROW,
-                            detour, DOERAGYEOL_ROUTE_ROW, way, DOERAGYEOL_WAY);
+                            (uint16_t)header[3], DOERAGYEOL_LOWEST_NUMBER, (uint16_t)start, (uint16_t)failed, ordinary,
+                            DOERAGYEOL_ROUTE_ROW, detour, DOERAGYEOL_ROUTE_ROW, way, DOERAGYEOL_WAY);
     ended = said(words[1], word);
     if (ended != 0)
         return ended;

@@ -15,9 +15,10 @@
  * - a row that is written overlaps no other row of the call, and nobody else writes to a row during the call.
  *
  * Each function answers one word: 0, or the first refusal in the order that it names, whose number and place the two
- * functions below take out. A row that is lent for values (sizes, told, size, header, way, distance) and is too short for
- * them is refused by 10, in 10's place in the order: behind 1 to 9, and before 15 to 17 and 24. On a refusal nothing lent
- * is changed. Otherwise a row gets what is said at its beginning, and the rest of it stays.
+ * functions below take out. Where a call takes a rule, 14 comes directly behind 4: its "1 to 9" is 1 to 4, 14, 5 to 9,
+ * and its "1 to 10" goes on with 10. A row that is lent for values (sizes, told, size, header, way, distance) and is too
+ * short for them is refused by 10, in 10's place in the order: behind 1 to 9, and before 15 to 17 and 24. On a refusal
+ * nothing lent is changed. Otherwise a row gets what is said at its beginning, and the rest of it stays.
  *
  * The rows:
  *
@@ -29,6 +30,12 @@
  *   them which end is the lower, the one that is cut off with the node: DOERAGYEOL_FIRST_END or DOERAGYEOL_SECOND_END.
  *
  * The root is a node. The depth is 0 to 510, or DOERAGYEOL_WHOLE.
+ *
+ * The rule is the tie rule. Of the candidates that cost least under a measure it says which one is the swap link: by
+ * DOERAGYEOL_LOWEST_NUMBER the one with the lowest number; by DOERAGYEOL_NEARER_FIRST the one with the lowest incr cost,
+ * which raises the failed node's own distance least, and of those the one with the lowest number. Under incr both rules
+ * take the same link. States, costs and the unprotected map are the same by both. A file of edition 1 means
+ * DOERAGYEOL_LOWEST_NUMBER.
  */
 #ifndef DOERAGYEOL_H
 #define DOERAGYEOL_H
@@ -46,9 +53,9 @@ extern "C" {
  * another version does not link. Where the linker drops unused sections (--gc-sections) this takes a compiler that knows
  * `retain` (GCC 11, Clang 13). The header of version 2 had no `retain`: compile its callers anew.
  */
-#define DOERAGYEOL_VERSION 5
+#define DOERAGYEOL_VERSION 6
 
-uint32_t doeragyeol_version_5(void);
+uint32_t doeragyeol_version_6(void);
 
 #if defined(__GNUC__)
 #if defined(__has_attribute)
@@ -56,7 +63,7 @@ uint32_t doeragyeol_version_5(void);
 __attribute__((retain))
 #endif
 #endif
-__attribute__((used)) static uint32_t (*const doeragyeol_made_for)(void) = doeragyeol_version_5;
+__attribute__((used)) static uint32_t (*const doeragyeol_made_for)(void) = doeragyeol_version_6;
 #endif
 
 /* The limits, and how long the rows are that hold all that there can be. */
@@ -90,6 +97,10 @@ __attribute__((used)) static uint32_t (*const doeragyeol_made_for)(void) = doera
 #define DOERAGYEOL_WHOLE 65535
 #define DOERAGYEOL_NO_LINK 65535
 #define DOERAGYEOL_NO_NODE 65535
+
+/* The tie rules. */
+#define DOERAGYEOL_LOWEST_NUMBER 0
+#define DOERAGYEOL_NEARER_FIRST 1
 
 /* The service marks of a link. */
 #define DOERAGYEOL_WITHDRAWN 0
@@ -126,12 +137,13 @@ __attribute__((used)) static uint32_t (*const doeragyeol_made_for)(void) = doera
 #define DOERAGYEOL_STATE_NONE 2   /* links cross, but none within the depth */
 #define DOERAGYEOL_STATE_BRIDGE 3 /* nothing crosses */
 
-/* The numbers of the refusals, and what the place names. */
+/* The numbers of the refusals, 14 in its place in the order, and what the place names. */
 #define DOERAGYEOL_DONE 0
 #define DOERAGYEOL_NODE_COUNT 1    /* no node, or more than 512: place 0 */
 #define DOERAGYEOL_LINK_COUNT 2    /* more than 2,048 links: place 0 */
 #define DOERAGYEOL_BAD_ROOT 3      /* the root is no node: place 0 */
 #define DOERAGYEOL_BAD_DEPTH 4     /* the depth is over 510 and not the whole search: place 0 */
+#define DOERAGYEOL_BAD_RULE 14     /* the tie rule is not 0 or 1: place 0 */
 #define DOERAGYEOL_BAD_ENDS 5      /* an end is no node, or both are equal: the link */
 #define DOERAGYEOL_BAD_MARK 6      /* the service mark is not 0 or 1: the link */
 #define DOERAGYEOL_BAD_PARENT 7    /* the parent link is none that the node can have: the node */
@@ -166,83 +178,87 @@ static inline uint32_t doeragyeol_place(uint32_t word)
  * and then by 10 for the room: taken is exactly what is sound, with room.
  */
 uint32_t doeragyeol_check(const uint16_t *links, size_t links_length, const uint16_t *parents, size_t parents_length,
-                          uint16_t root, uint16_t depth, uint64_t *sizes, size_t sizes_length);
+                          uint16_t root, uint16_t depth, uint16_t rule, uint64_t *sizes, size_t sizes_length);
 
 /*
  * The table of a network: the entry of each node, in node order, into entries (room for 10 a node). Refused by 1 to 10.
  */
 uint32_t doeragyeol_table(const uint16_t *links, size_t links_length, const uint16_t *parents, size_t parents_length,
-                          uint16_t root, uint16_t depth, uint64_t *entries, size_t entries_length);
+                          uint16_t root, uint16_t depth, uint16_t rule, uint64_t *entries, size_t entries_length);
 
 /*
- * The unprotected map of a network: node x is in state none or bridge exactly where bit x mod 64 of word x div 64 is set,
- * into words (room for 8). told (room for 2) gets how many nodes are unprotected, and the lowest of them or
- * DOERAGYEOL_NO_NODE. Refused by 1 to 10.
+ * The unprotected map of a network: node x is in state none or bridge exactly where bit x mod 64 of word x div 64 is
+ * set, into words (room for 8). told (room for 2) gets how many nodes are unprotected, and the lowest of them or
+ * DOERAGYEOL_NO_NODE. It is the same by both rules; a rule that is neither is refused all the same. Refused by 1 to 10.
  */
 uint32_t doeragyeol_map(const uint16_t *links, size_t links_length, const uint16_t *parents, size_t parents_length,
-                        uint16_t root, uint16_t depth, uint64_t *words, size_t words_length, uint64_t *told,
+                        uint16_t root, uint16_t depth, uint16_t rule, uint64_t *words, size_t words_length, uint64_t *told,
                         size_t told_length);
 
 /*
  * The change of one link outside the tree: the link gets this service mark and length in links, and the entries of the
  * nodes whose tree link lies on the tree path between the link's ends are worked out afresh in entries (room for 10 a
- * node); every other number of both rows stays. Where entries held the table of the network before, it holds that of the
- * network after. Refused by 1 to 10, 11, 6 at the changed link, 12 and 13.
+ * node); every other number of both rows stays. Where entries held the table of the network before, by this depth and
+ * rule, it holds that of the network after. Refused by 1 to 10, 11, 6 at the changed link, 12 and 13.
  */
 uint32_t doeragyeol_change(uint16_t *links, size_t links_length, const uint16_t *parents, size_t parents_length,
-                           uint16_t root, uint16_t depth, uint64_t *entries, size_t entries_length, uint16_t link,
-                           uint16_t mark, uint16_t length);
+                           uint16_t root, uint16_t depth, uint16_t rule, uint64_t *entries, size_t entries_length,
+                           uint16_t link, uint16_t mark, uint16_t length);
 
 /*
  * The one file of a network and depth, into file; a file has at most DOERAGYEOL_FILE_BYTES bytes. size (room for 1) gets
- * how many it has. Refused by 1 to 10.
+ * how many it has. A file of edition 1 has the table by DOERAGYEOL_LOWEST_NUMBER, so no rule is taken. Refused by 1 to
+ * 10, and never by 14.
  */
 uint32_t doeragyeol_write(const uint16_t *links, size_t links_length, const uint16_t *parents, size_t parents_length,
                           uint16_t root, uint16_t depth, uint8_t *file, size_t file_length, uint64_t *size,
                           size_t size_length);
 
 /*
- * The network, the depth and the table that a file holds: links (room for 4 a link), parents (room for 1 a node), entries
- * (room for 10 a node), and in header (room for 4) how many nodes and links there are, the root and the depth. Taken is the
- * one file of its network and depth and no other, so the entries are those that doeragyeol_table gives; a file of edition 1
- * stores no marks of lower ends, and the entries have them all the same. Rows of DOERAGYEOL_LINKS_ROW,
- * DOERAGYEOL_PARENTS_ROW and DOERAGYEOL_ENTRIES_ROW numbers hold what any file has. Refused by 20, by 21 and 22 of the
- * header's block, by 1 to 4, by 20 for the number of blocks, by 21 and 22 block by block, by 5 to 9, 10 and 24.
+ * The network, the depth and the table that a file holds: links (room for 4 a link), parents (room for 1 a node),
+ * entries (room for 10 a node), and in header (room for 4) how many nodes and links there are, the root and the depth.
+ * Taken is the one file of its network and depth and no other. A file of edition 1 names no rule and means
+ * DOERAGYEOL_LOWEST_NUMBER: the entries are those that doeragyeol_table gives by it. It stores no marks of lower ends,
+ * and the entries have them all the same. Rows of DOERAGYEOL_LINKS_ROW, DOERAGYEOL_PARENTS_ROW and
+ * DOERAGYEOL_ENTRIES_ROW numbers hold what any file has. Refused by 20, by 21 and 22 of the header's block, by 1 to 4,
+ * by 20 for the number of blocks, by 21 and 22 block by block, by 5 to 9, 10 and 24, and never by 14.
  */
 uint32_t doeragyeol_read(const uint8_t *file, size_t file_length, uint16_t *links, size_t links_length,
                          uint16_t *parents, size_t parents_length, uint64_t *entries, size_t entries_length,
                          uint64_t *header, size_t header_length);
 
 /*
- * The way from a start to the root while the tree link of a node has failed: its nodes in the order of passing, the start
- * first and the root last. Where the start is not cut off, that is its route, into ordinary; else the route up to the failed
- * node, down the tree to the lower end of the failed node's swap link, across that link, and by the route of its other end,
- * into detour. The swap link is the one that doeragyeol_table names under the measure in the function's name. way (room for
- * 3) gets DOERAGYEOL_ORDINARY or DOERAGYEOL_DETOUR for the row that applies, how many nodes are put there, and how long the
- * way is, its steps added. The other row stays as it is. Either row, ordinary or detour, is too short where it has fewer
- * than DOERAGYEOL_ROUTE_ROW numbers, also where the way would fit. Refused by 1 to 10, 15, 16 and 17.
+ * The way from a start to the root while the tree link of a node has failed: its nodes in the order of passing, the
+ * start first and the root last. Where the start is not cut off, that is its route, into ordinary; else the route up to
+ * the failed node, down the tree to the lower end of the failed node's swap link, across that link, and by the route of
+ * its other end, into detour. The swap link is the one that doeragyeol_table names by this depth and rule under the
+ * measure in the function's name. way (room for 3) gets DOERAGYEOL_ORDINARY or DOERAGYEOL_DETOUR for the row that
+ * applies, how many nodes are put there, and how long the way is, its steps added. The other row stays as it is. Either
+ * row, ordinary or detour, is too short where it has fewer than DOERAGYEOL_ROUTE_ROW numbers, also where the way would
+ * fit. Refused by 1 to 10, 15, 16 and 17.
  */
 uint32_t doeragyeol_forward_sum(const uint16_t *links, size_t links_length, const uint16_t *parents,
-                                size_t parents_length, uint16_t root, uint16_t depth, uint16_t start, uint16_t failed,
-                                uint16_t *ordinary, size_t ordinary_length, uint16_t *detour, size_t detour_length,
-                                uint64_t *way, size_t way_length);
+                                size_t parents_length, uint16_t root, uint16_t depth, uint16_t rule, uint16_t start,
+                                uint16_t failed, uint16_t *ordinary, size_t ordinary_length, uint16_t *detour,
+                                size_t detour_length, uint64_t *way, size_t way_length);
 uint32_t doeragyeol_forward_incr(const uint16_t *links, size_t links_length, const uint16_t *parents,
-                                 size_t parents_length, uint16_t root, uint16_t depth, uint16_t start, uint16_t failed,
-                                 uint16_t *ordinary, size_t ordinary_length, uint16_t *detour, size_t detour_length,
-                                 uint64_t *way, size_t way_length);
+                                 size_t parents_length, uint16_t root, uint16_t depth, uint16_t rule, uint16_t start,
+                                 uint16_t failed, uint16_t *ordinary, size_t ordinary_length, uint16_t *detour,
+                                 size_t detour_length, uint64_t *way, size_t way_length);
 uint32_t doeragyeol_forward_max(const uint16_t *links, size_t links_length, const uint16_t *parents,
-                                size_t parents_length, uint16_t root, uint16_t depth, uint16_t start, uint16_t failed,
-                                uint16_t *ordinary, size_t ordinary_length, uint16_t *detour, size_t detour_length,
-                                uint64_t *way, size_t way_length);
+                                size_t parents_length, uint16_t root, uint16_t depth, uint16_t rule, uint16_t start,
+                                uint16_t failed, uint16_t *ordinary, size_t ordinary_length, uint16_t *detour,
+                                size_t detour_length, uint64_t *way, size_t way_length);
 
 /*
- * The length of the tree path between two nodes: from one of them up to where their two routes meet, and down to the other.
- * distance (room for 1) gets it. For a task with little stack: it takes at most DOERAGYEOL_DISTANCE_STACK bytes with
- * everything that it calls, the arguments that are passed on the stack and the return address among them, on the longest
- * path too (measured, not proved). It asks the tree alone, so there is no depth, and it does not check the network: a node
- * has a route where its parent links lead to the root. On a network that doeragyeol_check takes every node has one, and no
- * distance is over 33,488,385. Every number of the row of parents counts as a node, so give its length as the number of
- * nodes. Refused by 1, by 8 at from, by 8 at to (a node that does not exist has no route), and by 10.
+ * The length of the tree path between two nodes: from one of them up to where their two routes meet, and down to the
+ * other. distance (room for 1) gets it. For a task with little stack: it takes at most DOERAGYEOL_DISTANCE_STACK bytes
+ * with everything that it calls, the arguments that are passed on the stack and the return address among them, on the
+ * longest path too (measured, not proved). It asks the tree alone, so there is no depth and no rule, and it does not
+ * check the network: a node has a route where its parent links lead to the root. On a network that doeragyeol_check
+ * takes every node has one, and no distance is over 33,488,385. Every number of the row of parents counts as a node, so
+ * give its length as the number of nodes. Refused by 1, by 8 at from, by 8 at to (a node that does not exist has no
+ * route), and by 10.
  */
 #define DOERAGYEOL_DISTANCE_STACK 2048
 uint32_t doeragyeol_distance(const uint16_t *links, size_t links_length, const uint16_t *parents, size_t parents_length,

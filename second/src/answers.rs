@@ -160,13 +160,13 @@ pub fn lent_row(room: usize) -> Vec<u64> {
 
 fn check_answer(case: &Case) -> String {
     let rows = case.rows();
-    verdict("check", check(&rows.lend(), case.depth).map(|_| ()))
+    verdict("check", check(&rows.lend(), case.terms()).map(|_| ()))
 }
 
 fn table_answer(case: &Case) -> String {
     let rows = case.rows();
     let mut row = lent_row(case.room);
-    let answer = table(&rows.lend(), case.depth, &mut row);
+    let answer = table(&rows.lend(), case.terms(), &mut row);
     let count = answer.map_or(0, |()| rows.parents.len());
     verdict("table", answer) + &entry_lines(&row, count) + REST
 }
@@ -174,7 +174,7 @@ fn table_answer(case: &Case) -> String {
 fn map_answer(case: &Case) -> String {
     let rows = case.rows();
     let mut row = lent_row(case.room);
-    let line = match map(&rows.lend(), case.depth, &mut row) {
+    let line = match map(&rows.lend(), case.terms(), &mut row) {
         Ok(map) => {
             let words = spaced(&row[..MAP_WORDS]);
             format!("map ok {} {}{words}\n", map.count, map.lowest)
@@ -186,7 +186,7 @@ fn map_answer(case: &Case) -> String {
 
 fn change_answer(case: &Case) -> String {
     let mut row = lent_row(case.room);
-    match table(&case.rows().lend(), case.depth, &mut row) {
+    match table(&case.rows().lend(), case.terms(), &mut row) {
         Ok(()) => changed(case, &mut row, case.parents.len()),
         Err(refusal) => refused("table", &refusal),
     }
@@ -203,7 +203,7 @@ fn changed(case: &Case, row: &mut [u64], count: usize) -> String {
     let [link, mark, length] = case.abc;
     let wanted = Change { link, mark, length };
     let mut rows = case.rows();
-    let answer = change(&mut rows, case.depth, row, &wanted);
+    let answer = change(&mut rows, case.terms(), row, &wanted);
     let mut text = verdict("change", answer);
     if (link as usize) < rows.lend().m() {
         text += &link_lines(&rows.links[LINK_WIDTH * link as usize..], 1);
@@ -259,7 +259,7 @@ fn forward_answer(case: &Case) -> String {
     };
     let [mut ordinary, mut detour] = rooms_of(case.room).map(|room| vec![ROW_FILL; room]);
     let lent = [&mut ordinary[..], &mut detour[..]];
-    let text = match forward(&rows.lend(), case.depth, &asked, lent) {
+    let text = match forward(&rows.lend(), case.terms(), &asked, lent) {
         Ok(Told { kind, count, .. }) => {
             let row = match kind {
                 Kind::Ordinary => ordinary,
@@ -298,13 +298,13 @@ fn meet_answer(case: &Case) -> String {
 
 fn entry_answer(case: &Case) -> String {
     let a = case.abc[0];
-    match entry_of(&case.rows().lend(), case.depth, a) {
+    match entry_of(&case.rows().lend(), case.terms(), a) {
         Ok(entry) => "entry ok\n".to_string() + &entry_line(usize::from(a), &entry.numbers()),
         Err(refusal) => refused("entry", &refusal),
     }
 }
 
 fn node_answer(case: &Case) -> String {
-    let answer = check_entry(&case.rows().lend(), case.depth, case.abc[0]);
+    let answer = check_entry(&case.rows().lend(), case.terms(), case.abc[0]);
     verdict("node", answer.map(|_| ()))
 }

@@ -5,6 +5,7 @@ use crate::limits::*;
 use crate::network::{Link, Rows};
 use crate::refusal::{refuse, Refusal, Why};
 use crate::table::{check_room, store, Search};
+use crate::terms::Terms;
 use crate::tree::Tree;
 
 /// A change: the link, its new service mark and its new length.
@@ -59,18 +60,18 @@ pub fn path(tree: &Tree, ends: [u16; 2]) -> Vec<usize> {
 /// is written. A refusal changes nothing.
 pub fn change(
     rows: &mut Rows,
-    depth: u16,
+    terms: Terms,
     row: &mut [u64],
     change: &Change,
 ) -> Result<(), Refusal> {
-    let tree = check(&rows.lend(), depth)?;
+    let tree = check(&rows.lend(), terms)?;
     check_room(rows.parents.len(), row)?;
     verdict(rows, &tree, change)?;
     set(rows, change);
     let net = rows.lend();
     let ends = net.link(change.link as usize).ends;
     let tree = check_rows(&net).expect("the changed network is sound");
-    let search = Search::new(&net, &tree, depth);
+    let search = Search::new(&net, &tree, terms);
     for x in path(&tree, ends) {
         store(row, x, &search.entry(x));
     }

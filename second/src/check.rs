@@ -1,8 +1,10 @@
-//! The check of a network and its tree: refusals 1 to 9 in their order.
+//! The check of a network, its tree and the terms of a search: refusals 1 to 4,
+//! 14 and 5 to 9, in this order.
 
 use crate::limits::*;
 use crate::network::Network;
 use crate::refusal::{refuse, refuse_lowest, Refusal, Why};
+use crate::terms::Terms;
 use crate::tree::Tree;
 
 /// Refusals 1 to 4, from the four numbers alone.
@@ -20,6 +22,14 @@ pub fn check_numbers(n: usize, m: usize, root: u16, depth: u16) -> Result<(), Re
         return refuse(Why::Depth, 0);
     }
     Ok(())
+}
+
+/// Refusal 14.
+fn check_rule(rule: u16) -> Result<(), Refusal> {
+    match rule {
+        LOWEST_NUMBER | NEARER_FIRST => Ok(()),
+        _ => refuse(Why::Rule, 0),
+    }
 }
 
 /// Both ends are nodes and differ.
@@ -53,7 +63,7 @@ pub fn is_short(tree: &Tree, ends: [u16; 2], length: u16) -> bool {
     a <= b + w && b <= a + w
 }
 
-/// Refusals 5 to 9. The numbers 1 to 4 must be sound.
+/// Refusals 5 to 9. What 1 to 4 look at must be sound.
 pub fn check_rows(net: &Network) -> Result<Tree, Refusal> {
     refuse_lowest(Why::Ends, net.m(), |e| !ends_are_sound(net, e))?;
     refuse_lowest(Why::Mark, net.m(), |e| !is_mark(net.link(e).mark))?;
@@ -69,8 +79,9 @@ pub fn check_rows(net: &Network) -> Result<Tree, Refusal> {
     Ok(tree)
 }
 
-/// Refusals 1 to 9 in order; the tree where there is none.
-pub fn check(net: &Network, depth: u16) -> Result<Tree, Refusal> {
-    check_numbers(net.n(), net.m(), net.root, depth)?;
+/// Refusals 1 to 4, 14 and 5 to 9; the tree where there is none.
+pub fn check(net: &Network, terms: Terms) -> Result<Tree, Refusal> {
+    check_numbers(net.n(), net.m(), net.root, terms.depth)?;
+    check_rule(terms.rule)?;
     check_rows(net)
 }

@@ -6,13 +6,14 @@ use crate::refusal::Why;
 use crate::rng::Rng;
 use crate::tree::Tree;
 
-/// The refusals of a network that a fault in the rows, the root or the depth
-/// can bring about, in their order.
-pub const NETWORK_FAULTS: [Why; 9] = [
+/// The refusals of a check that a fault in the rows, the root, the depth or the
+/// tie rule can bring about, in their order.
+pub const NETWORK_FAULTS: [Why; 10] = [
     Why::NodeCount,
     Why::LinkCount,
     Why::Root,
     Why::Depth,
+    Why::Rule,
     Why::Ends,
     Why::Mark,
     Why::ParentLink,
@@ -20,11 +21,12 @@ pub const NETWORK_FAULTS: [Why; 9] = [
     Why::Shortness,
 ];
 
-/// A network and a depth with faults. `sound` is what the network was.
+/// A network, a depth and a rule with faults. `sound` is what the network was.
 pub struct Faulty<'a> {
     pub sound: &'a Rows,
     pub rows: Rows,
     pub depth: u16,
+    pub rule: u16,
 }
 
 impl<'a> Faulty<'a> {
@@ -33,6 +35,7 @@ impl<'a> Faulty<'a> {
             sound,
             rows: sound.clone(),
             depth,
+            rule: LOWEST_NUMBER,
         }
     }
 
@@ -40,7 +43,8 @@ impl<'a> Faulty<'a> {
     /// earlier one's may cover it.
     pub fn with(mut self, rng: &mut Rng, faults: &[Why]) -> Faulty<'a> {
         let mut order = faults.to_vec();
-        order.sort_by_key(|&why| std::cmp::Reverse(why as u16));
+        let place = |why: &Why| NETWORK_FAULTS.iter().position(|other| other == why);
+        order.sort_by_key(|why| std::cmp::Reverse(place(why)));
         for why in order {
             self.put(rng, why);
         }
@@ -56,6 +60,7 @@ impl<'a> Faulty<'a> {
                 let wrong = [DEEPEST + 1, DEEPEST + 2, 40_000, WHOLE - 1];
                 self.depth = rng.pick(&wrong);
             }
+            Why::Rule => self.rule = rng.pick(&[2, 3, 256, 257, 65_535]),
             Why::Ends => self.spoil_ends(rng),
             Why::Mark => self.set_field(rng, MARK_AT, &[2, 3, 256, 257, 65_535]),
             Why::ParentLink => self.spoil_parent(rng),

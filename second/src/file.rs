@@ -6,6 +6,7 @@ use crate::limits::*;
 use crate::network::{Link, Network};
 use crate::refusal::{refuse, Refusal, Why};
 use crate::table::{entries, Entry};
+use crate::terms::Terms;
 
 /// A block of a file: kind, used count, and its first record.
 #[derive(Clone, Copy, PartialEq, Eq, Debug)]
@@ -80,14 +81,16 @@ pub fn stored(net: &Network, depth: u16, entries: &[Entry]) -> Vec<u8> {
     file
 }
 
-/// Writes the one file of network and depth, and answers its length.
+/// Writes the one file of network and depth, and answers its length. It takes no
+/// tie rule: the table is that of rule 0.
 pub fn write(net: &Network, depth: u16, room: &mut [u8]) -> Result<usize, Refusal> {
-    let tree = check(net, depth)?;
+    let terms = Terms::filed(depth);
+    let tree = check(net, terms)?;
     let length = file_length(net.n(), net.m());
     if room.len() < length {
         return refuse(Why::Room, 0);
     }
-    let file = stored(net, depth, &entries(net, &tree, depth));
+    let file = stored(net, depth, &entries(net, &tree, terms));
     room[..length].copy_from_slice(&file);
     Ok(length)
 }

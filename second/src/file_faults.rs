@@ -10,6 +10,7 @@ use crate::network::Rows;
 use crate::refusal::Why;
 use crate::rng::Rng;
 use crate::table::{entries, Entry};
+use crate::terms::Terms;
 
 /// A fault of a file, in the order in which the faults are put in.
 #[derive(Clone, Copy, PartialEq, Eq, PartialOrd, Ord, Debug)]
@@ -116,8 +117,9 @@ fn network_fault(fault: &F) -> Option<Why> {
 /// The file of an accepted network with faults, and the rooms for it.
 pub fn damaged(rng: &mut Rng, sound: &Rows, depth: u16, faults: &[F]) -> Lent {
     let net = sound.lend();
-    let tree = check(&net, depth).expect("the network is sound");
-    let table = entries(&net, &tree, depth);
+    let terms = Terms::filed(depth);
+    let tree = check(&net, terms).expect("the network is sound");
+    let table = entries(&net, &tree, terms);
     let whys: Vec<Why> = faults.iter().filter_map(network_fault).collect();
     let faulty = Faulty::new(sound, depth).with(rng, &whys);
     let (n, m) = (net.n(), net.m());

@@ -62,7 +62,7 @@ fn way_words(file: &[u8], asked: &Asked) -> Result<String, Refusal> {
         kind,
         count,
         length,
-    } = forward(&rows.lend(), said.depth, asked, lent)?;
+    } = forward(&rows.lend(), said.terms(), asked, lent)?;
     let row = match kind {
         Kind::Ordinary => ordinary,
         Kind::Detour => detour,

@@ -7,6 +7,7 @@ use crate::network::Network;
 use crate::refusal::{refuse, Refusal, Why};
 use crate::routes::{rise, route_of};
 use crate::table::{Search, State};
+use crate::terms::Terms;
 use crate::tree::Tree;
 
 /// What is least under a measure. The value is its place in an entry.
@@ -83,9 +84,9 @@ fn ordinary(net: &Network, nodes: Vec<usize>) -> Way {
 }
 
 /// The swap link of x under a measure, or 17 at x.
-fn swap_link(net: &Network, tree: &Tree, depth: u16, asked: &Asked) -> Result<usize, Refusal> {
+fn swap_link(net: &Network, tree: &Tree, terms: Terms, asked: &Asked) -> Result<usize, Refusal> {
     let x = usize::from(asked.failed);
-    let entry = Search::new(net, tree, depth).entry(x);
+    let entry = Search::new(net, tree, terms).entry(x);
     match entry.state {
         State::Swap => Ok(usize::from(entry.links[asked.measure as usize])),
         _ => refuse(Why::NoSwap, x),
@@ -119,7 +120,7 @@ fn detour(net: &Network, from: &[usize], x: usize, e: usize) -> Way {
 }
 
 /// The way, with refusals 15 to 17 in their order. The network is checked.
-fn way(net: &Network, tree: &Tree, depth: u16, asked: &Asked) -> Result<Way, Refusal> {
+fn way(net: &Network, tree: &Tree, terms: Terms, asked: &Asked) -> Result<Way, Refusal> {
     let [start, x] = [asked.start, asked.failed].map(usize::from);
     if start >= net.n() {
         return refuse(Why::Start, 0);
@@ -131,24 +132,24 @@ fn way(net: &Network, tree: &Tree, depth: u16, asked: &Asked) -> Result<Way, Ref
     if !nodes.contains(&x) {
         return Ok(ordinary(net, nodes));
     }
-    let e = swap_link(net, tree, depth, asked)?;
+    let e = swap_link(net, tree, terms, asked)?;
     Ok(detour(net, &nodes, x, e))
 }
 
 /// Writes the way into the first numbers of the row that applies, of the
-/// ordinary row and the detour row. Refusals 1 to 9, 10 where either row is
-/// short, 15, 16, 17. A refusal writes nothing.
+/// ordinary row and the detour row. The refusals of a check, 10 where either row
+/// is short, 15, 16, 17. A refusal writes nothing.
 pub fn forward(
     net: &Network,
-    depth: u16,
+    terms: Terms,
     asked: &Asked,
     rows: [&mut [u16]; 2],
 ) -> Result<Told, Refusal> {
-    let tree = check(net, depth)?;
+    let tree = check(net, terms)?;
     if rows.iter().any(|row| row.len() < ROUTE_ROW) {
         return refuse(Why::Room, 0);
     }
-    let way = way(net, &tree, depth, asked)?;
+    let way = way(net, &tree, terms, asked)?;
     let [first, second] = rows;
     let row = match way.kind {
         Kind::Ordinary => first,

@@ -10,6 +10,10 @@ pub const MOST_LINKS: usize = 2_048;
 pub const DEEPEST: u16 = 510;
 /// The depth of the whole search.
 pub const WHOLE: u16 = 65_535;
+/// The tie rule by which the lowest number decides.
+pub const LOWEST_NUMBER: u16 = 0;
+/// The tie rule by which the lower incr decides, then the lowest number.
+pub const NEARER_FIRST: u16 = 1;
 /// No link: the root's parent link, and the links of an entry without a swap.
 pub const NO_LINK: u16 = 65_535;
 /// No node: the map's lowest node where none is unprotected.
@@ -37,6 +41,8 @@ pub const MARK_AT: usize = 3;
 pub const ENTRY_WIDTH: usize = 10;
 /// The measures: sum, incr, max.
 pub const MEASURES: usize = 3;
+/// The place of incr among the measures.
+pub const INCR: usize = 1;
 /// Words of the map.
 pub const MAP_WORDS: usize = 8;
 /// Nodes in a word of the map.
@@ -81,7 +87,7 @@ pub const LONGEST_LISTED: usize = 32_256;
 // The probe.
 
 /// Words in the head of a case.
-pub const HEAD_WORDS: usize = 11;
+pub const HEAD_WORDS: usize = 12;
 /// The most parents of a case.
 pub const PROBE_PARENTS: usize = 600;
 /// The most link numbers of a case.
@@ -102,7 +108,7 @@ pub const BYTES_A_LINE: usize = 32;
 // Series of changes.
 
 /// Words in the head of a series.
-pub const SERIES_HEAD: usize = 5;
+pub const SERIES_HEAD: usize = 6;
 /// Words in a change.
 pub const CHANGE_WORDS: usize = 3;
 /// The most changes of a series.

@@ -30,7 +30,7 @@ fn accepted(file: &[u8]) -> Result<String, Refusal> {
         let entry = &entries[ENTRY_WIDTH * x..ENTRY_WIDTH * (x + 1)];
         text += &format!("{} {} {}\n", x, rows.parents[x], entry_words(entry));
     }
-    Ok(text + &last_line(&rows, said.depth)?)
+    Ok(text + &last_line(&rows, &said)?)
 }
 
 fn first_line(said: &Said) -> String {
@@ -59,8 +59,8 @@ fn entry_words(entry: &[u64]) -> String {
     }
 }
 
-fn last_line(rows: &Rows, depth: u16) -> Result<String, Refusal> {
-    let map = map(&rows.lend(), depth, &mut [0; MAP_WORDS])?;
+fn last_line(rows: &Rows, said: &Said) -> Result<String, Refusal> {
+    let map = map(&rows.lend(), said.terms(), &mut [0; MAP_WORDS])?;
     let lowest = match map.lowest {
         NO_NODE => "-".to_string(),
         node => node.to_string(),

@@ -1,7 +1,7 @@
 //! The second program's command line.
 
 use second::answers::{answers, first_difference};
-use second::cases::{input, kept, largest, ops, series};
+use second::cases::{input, kept, largest, ops, series, tied};
 use second::file::write;
 use second::filed::{distance_line, way_line};
 use second::forward::{Asked, NAMED_MEASURES};
@@ -18,7 +18,7 @@ use std::process::ExitCode;
 
 const USAGE: &str =
     "usage: second list | harbour | kept | largest [OP] | expect | compare PRINTED | cases OPS SEED COUNT | files DIR SEED COUNT
-       second series SEED COUNT | series-expect
+       second tied SEED COUNT | series SEED COUNT | series-expect
        second forward START FAILED sum|incr|max
        second distance FROM TO";
 
@@ -71,6 +71,10 @@ fn run(words: &[&str]) -> Option<Result<()>> {
         ["cases", list, seed, count] => {
             let bytes = input(&ops(list)?, seed.parse().ok()?, count.parse().ok()?);
             Some(print(&bytes))
+        }
+        ["tied", seed, count] => {
+            let (seed, count) = (seed.parse().ok()?, count.parse().ok()?);
+            Some(print(&tied(seed, count)))
         }
         ["series", seed, count] => {
             let (seed, count) = (seed.parse().ok()?, count.parse().ok()?);

@@ -1,10 +1,11 @@
-//! The map of unprotected nodes, from network and depth.
+//! The map of unprotected nodes, from network and terms.
 
 use crate::check::check;
 use crate::limits::*;
 use crate::network::Network;
 use crate::refusal::{refuse, Refusal, Why};
 use crate::table::{entries, Entry};
+use crate::terms::Terms;
 
 /// The map's words, its number of ones and its lowest node.
 #[derive(Clone, PartialEq, Eq, Debug)]
@@ -29,12 +30,12 @@ pub fn map_of(entries: &[Entry]) -> Map {
 }
 
 /// The map, with its words written into the first eight of the row.
-pub fn map(net: &Network, depth: u16, row: &mut [u64]) -> Result<Map, Refusal> {
-    let tree = check(net, depth)?;
+pub fn map(net: &Network, terms: Terms, row: &mut [u64]) -> Result<Map, Refusal> {
+    let tree = check(net, terms)?;
     if row.len() < MAP_WORDS {
         return refuse(Why::Room, 0);
     }
-    let map = map_of(&entries(net, &tree, depth));
+    let map = map_of(&entries(net, &tree, terms));
     row[..MAP_WORDS].copy_from_slice(&map.words);
     Ok(map)
 }

@@ -6,6 +6,7 @@ use crate::limits::*;
 use crate::network::Rows;
 use crate::rng::Rng;
 use crate::shapes::Draft;
+use crate::ties::tied;
 
 /// A network with a short label.
 pub struct Named {
@@ -87,8 +88,8 @@ fn tiny() -> Vec<Named> {
     list
 }
 
-/// Small networks of every shape, and those with links recorded from either
-/// end.
+/// Small networks of every shape, those with links recorded from either end, and
+/// those with ties.
 pub fn small() -> Vec<Named> {
     let mut rng = Rng::new(1);
     let doubled = Draft::path(5, 4).with_parallels(&mut rng, 6);
@@ -121,6 +122,7 @@ pub fn small() -> Vec<Named> {
         ("map-second-word", high.join(50, 100, 1)),
     ]));
     list.extend(recorded());
+    list.extend(tied());
     list
 }
 

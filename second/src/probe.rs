@@ -2,6 +2,7 @@
 
 use crate::limits::*;
 use crate::network::Rows;
+use crate::terms::Terms;
 
 /// The ops of the probe.
 pub const CHECK: u16 = 1;
@@ -53,10 +54,11 @@ pub struct Case {
     pub root: u16,
     pub depth: u16,
     pub abc: [u16; 3],
+    pub rule: u16,
 }
 
 impl Case {
-    /// A case over a network.
+    /// A case over a network, by rule 0.
     pub fn over(op: u16, rows: &Rows, depth: u16, room: usize) -> Case {
         Case {
             op,
@@ -76,6 +78,20 @@ impl Case {
             bytes: bytes.to_vec(),
             abc,
             ..Case::default()
+        }
+    }
+
+    /// The same case by another rule.
+    pub fn by(mut self, rule: u16) -> Case {
+        self.rule = rule;
+        self
+    }
+
+    /// The terms of the case.
+    pub fn terms(&self) -> Terms {
+        Terms {
+            depth: self.depth,
+            rule: self.rule,
         }
     }
 
@@ -99,6 +115,7 @@ impl Case {
             root: self.root,
             depth: self.depth,
             abc: self.abc,
+            rule: self.rule,
         }
     }
 
@@ -112,7 +129,7 @@ impl Case {
     }
 }
 
-/// The eleven words before the rows of a case.
+/// The twelve words before the rows of a case.
 #[derive(Clone, Copy, PartialEq, Eq, Debug)]
 pub struct Head {
     pub op: u16,
@@ -122,6 +139,7 @@ pub struct Head {
     pub root: u16,
     pub depth: u16,
     pub abc: [u16; 3],
+    pub rule: u16,
 }
 
 impl Head {
@@ -141,6 +159,7 @@ impl Head {
             a,
             b,
             c,
+            self.rule,
         ];
         words.iter().flat_map(|w| w.to_be_bytes()).collect()
     }
@@ -155,6 +174,7 @@ impl Head {
             root: words[6],
             depth: words[7],
             abc: [words[8], words[9], words[10]],
+            rule: words[11],
         }
     }
 
@@ -223,6 +243,7 @@ fn take_case(input: &mut &[u8], head: &Head) -> Option<Case> {
         root: head.root,
         depth: head.depth,
         abc: head.abc,
+        rule: head.rule,
     })
 }
 

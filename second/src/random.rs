@@ -4,6 +4,7 @@ use crate::limits::*;
 use crate::network::Rows;
 use crate::rng::Rng;
 use crate::shapes::Draft;
+use crate::ties;
 
 /// Mostly few nodes, at times some dozens, seldom up to the limit.
 fn size(rng: &mut Rng) -> usize {
@@ -76,8 +77,11 @@ pub fn draft(rng: &mut Rng, n: usize) -> Draft {
     draft
 }
 
-/// An accepted network of any size.
+/// An accepted network of any size, at times one on which many candidates tie.
 pub fn network(rng: &mut Rng) -> Rows {
+    if rng.chance(20) {
+        return ties::network(rng);
+    }
     let n = size(rng);
     draft(rng, n).with_tree(rng)
 }
@@ -162,6 +166,16 @@ pub fn depth(rng: &mut Rng) -> u16 {
         17 => DEEPEST,
         18 => rng.from_to(0, DEEPEST as usize) as u16,
         _ => rng.pick(&[DEEPEST, WHOLE, DEEPEST + 1, WHOLE - 1]),
+    }
+}
+
+/// A tie rule: mostly one of the two, seldom a wrong one.
+pub fn rule(rng: &mut Rng) -> u16 {
+    match rng.below(40) {
+        0..=17 => LOWEST_NUMBER,
+        18..=37 => NEARER_FIRST,
+        38 => rng.pick(&[2, 3, 256, 257, 65_535]),
+        _ => rng.word(),
     }
 }
 

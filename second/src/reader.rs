@@ -7,6 +7,7 @@ use crate::limits::*;
 use crate::network::Rows;
 use crate::refusal::{refuse, refuse_lowest, Refusal, Why};
 use crate::table::{check_room, entries, store};
+use crate::terms::Terms;
 
 /// What a read file says besides its rows.
 #[derive(Clone, Copy, PartialEq, Eq, Debug)]
@@ -15,6 +16,13 @@ pub struct Said {
     pub m: usize,
     pub root: u16,
     pub depth: u16,
+}
+
+impl Said {
+    /// The terms of the table that the file holds. Its edition names no rule.
+    pub fn terms(&self) -> Terms {
+        Terms::filed(self.depth)
+    }
 }
 
 /// The payload of block k as the slot asks it.
@@ -83,7 +91,7 @@ pub fn read(
     if links.len() / LINK_WIDTH < said.m || parents.len() < said.n {
         return refuse(Why::Room, 0);
     }
-    let right = entries(&net, &tree, said.depth);
+    let right = entries(&net, &tree, said.terms());
     refuse_lowest(Why::StoredEntry, said.n, |x| {
         let stored = &table_records[ENTRY_BYTES * x..ENTRY_BYTES * (x + 1)];
         stored != entry_bytes(rows.parents[x], &right[x])

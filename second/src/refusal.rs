@@ -11,6 +11,8 @@ pub enum Why {
     Root = 3,
     /// The depth is neither bounded nor the whole search.
     Depth = 4,
+    /// The tie rule is not 0 or 1. Its place in the order is here.
+    Rule = 14,
     /// An end is not a node, or both ends are equal.
     Ends = 5,
     /// The service mark is not 0 or 1.

@@ -9,12 +9,13 @@ use crate::network::Rows;
 use crate::probe::take_words;
 use crate::refusal::Refusal;
 use crate::table::table;
+use crate::terms::Terms;
 
-/// A network, a depth, and changes in their order.
+/// A network, the terms of its table, and changes in their order.
 #[derive(Clone, PartialEq, Eq, Debug)]
 pub struct Series {
     pub rows: Rows,
-    pub depth: u16,
+    pub terms: Terms,
     pub changes: Vec<Change>,
 }
 
@@ -23,11 +24,12 @@ impl Series {
     pub fn encode(&self) -> Vec<u8> {
         let Series {
             rows,
-            depth,
+            terms,
             changes,
         } = self;
         let (n, m) = (rows.parents.len(), rows.lend().m());
-        let mut words = vec![n as u16, m as u16, rows.root, *depth, changes.len() as u16];
+        let [n, m, count] = [n, m, changes.len()].map(|count| count as u16);
+        let mut words = vec![n, m, rows.root, terms.depth, count, terms.rule];
         words.extend(rows.parents.iter().chain(&rows.links));
         words.extend(changes.iter().flat_map(|c| [c.link, c.mark, c.length]));
         words.iter().flat_map(|w| w.to_be_bytes()).collect()
@@ -55,7 +57,10 @@ impl Series {
                 links,
                 root: head[2],
             },
-            depth: head[3],
+            terms: Terms {
+                depth: head[3],
+                rule: head[5],
+            },
             changes: changes.chunks(CHANGE_WORDS).map(change).collect(),
         })
     }
@@ -71,15 +76,15 @@ pub fn lines(input: &[u8]) -> String {
 
 fn answers(series: &Series) -> String {
     let mut rows = series.rows.clone();
-    let mut row = match fresh(&rows, series.depth) {
+    let mut row = match fresh(&rows, series.terms) {
         Ok(row) => row,
         Err(refusal) => return refusal.words() + "\n",
     };
     let mut text = String::new();
     for change in &series.changes {
-        let answer = change_record(&mut rows, series.depth, change);
+        let answer = change_record(&mut rows, series.terms, change);
         if answer.is_ok() {
-            row = fresh(&rows, series.depth).expect("the changed network is sound");
+            row = fresh(&rows, series.terms).expect("the changed network is sound");
         }
         text += &line(answer, &rows.links, &row);
     }
@@ -87,15 +92,15 @@ fn answers(series: &Series) -> String {
 }
 
 /// A lent row with room to spare, and the table worked out into it.
-pub fn fresh(rows: &Rows, depth: u16) -> Result<Vec<u64>, Refusal> {
+pub fn fresh(rows: &Rows, terms: Terms) -> Result<Vec<u64>, Refusal> {
     let mut row = lent_row(ENTRY_WIDTH * (rows.parents.len() + SPARE_ENTRIES));
-    table(&rows.lend(), depth, &mut row)?;
+    table(&rows.lend(), terms, &mut row)?;
     Ok(row)
 }
 
 /// The change in the network alone. A refusal changes nothing.
-fn change_record(rows: &mut Rows, depth: u16, change: &Change) -> Result<(), Refusal> {
-    let tree = check(&rows.lend(), depth)?;
+fn change_record(rows: &mut Rows, terms: Terms, change: &Change) -> Result<(), Refusal> {
+    let tree = check(&rows.lend(), terms)?;
     verdict(rows, &tree, change)?;
     set(rows, change);
     Ok(())

@@ -143,9 +143,14 @@ impl Draft {
 
     /// The same network with nodes and links numbered anew.
     pub fn shuffled(mut self, rng: &mut Rng) -> Draft {
+        rng.shuffle(&mut self.links);
+        self.renamed(rng)
+    }
+
+    /// The same network with nodes numbered anew.
+    pub fn renamed(mut self, rng: &mut Rng) -> Draft {
         let mut names: Vec<u16> = (0..self.n as u16).collect();
         rng.shuffle(&mut names);
-        rng.shuffle(&mut self.links);
         for link in &mut self.links {
             link.ends = link.ends.map(|end| names[end as usize]);
         }

@@ -4,6 +4,7 @@ use crate::check::check;
 use crate::limits::*;
 use crate::network::Network;
 use crate::refusal::{refuse, Refusal, Why};
+use crate::terms::Terms;
 use crate::tree::{PathLengths, Tree};
 
 /// The state of an entry. The value is the state's number.
@@ -82,6 +83,9 @@ pub fn crossings(net: &Network, tree: &Tree, x: usize) -> Vec<Crossing> {
     found
 }
 
+/// A candidate: its link, and its costs for sum, incr, max.
+pub type Priced = (usize, [u64; MEASURES]);
+
 /// What the costs need of z alone, over u in T(x).
 #[derive(Clone, Copy)]
 struct Reach {
@@ -129,22 +133,22 @@ pub struct Search<'a> {
     pub net: &'a Network<'a>,
     pub tree: &'a Tree,
     pub t: PathLengths,
-    pub depth: u16,
+    pub terms: Terms,
 }
 
 impl<'a> Search<'a> {
-    pub fn new(net: &'a Network<'a>, tree: &'a Tree, depth: u16) -> Search<'a> {
+    pub fn new(net: &'a Network<'a>, tree: &'a Tree, terms: Terms) -> Search<'a> {
         let t = PathLengths::of(net, tree);
         Search {
             net,
             tree,
             t,
-            depth,
+            terms,
         }
     }
 
     /// The costs of each candidate of x, in link order.
-    pub fn priced(&self, x: usize, candidates: &[Crossing]) -> Vec<(usize, [u64; MEASURES])> {
+    pub fn priced(&self, x: usize, candidates: &[Crossing]) -> Vec<Priced> {
         let below = self.tree.below(x);
         let mut reaches: Vec<Option<Reach>> = vec![None; self.net.n()];
         let mut price = |c: &Crossing| {
@@ -167,16 +171,16 @@ impl<'a> Search<'a> {
         if links.is_empty() {
             return Entry::without_swap(State::Bridge);
         }
-        links.retain(|c| within(self.tree, self.depth, x, c.inner));
+        links.retain(|c| within(self.tree, self.terms.depth, x, c.inner));
         if links.is_empty() {
             return Entry::without_swap(State::Beyond);
         }
         let priced = self.priced(x, &links);
         let mut entry = Entry::without_swap(State::Swap);
         for k in 0..MEASURES {
-            let (cost, link) = least(&priced, k);
+            let (link, costs) = best(&priced, k, self.terms.rule);
             entry.links[k] = link as u16;
-            entry.costs[k] = cost;
+            entry.costs[k] = costs[k];
             entry.lower[k] = self.lower_end(x, link);
         }
         entry
@@ -194,15 +198,27 @@ impl<'a> Search<'a> {
     }
 }
 
-/// The least cost under measure k, with the lowest link number that has it.
-fn least(priced: &[(usize, [u64; MEASURES])], k: usize) -> (u64, usize) {
-    let keys = priced.iter().map(|&(link, costs)| (costs[k], link));
-    keys.min().expect("there is a candidate")
+/// The candidates that have the least of a measure.
+fn least(priced: &[Priced], k: usize) -> Vec<Priced> {
+    let least = priced.iter().map(|(_, costs)| costs[k]).min();
+    let equals = priced.iter().filter(|(_, costs)| Some(costs[k]) == least);
+    equals.copied().collect()
+}
+
+/// The best under measure k: of those that cost least under it, by rule 1 of
+/// those among them that have the lowest incr, the one with the lowest number.
+fn best(priced: &[Priced], k: usize, rule: u16) -> Priced {
+    let mut equals = least(priced, k);
+    if rule == NEARER_FIRST {
+        equals = least(&equals, INCR);
+    }
+    let lowest = equals.into_iter().min_by_key(|&(link, _)| link);
+    lowest.expect("there is a candidate")
 }
 
 /// The entries of all nodes of a checked network.
-pub fn entries(net: &Network, tree: &Tree, depth: u16) -> Vec<Entry> {
-    let search = Search::new(net, tree, depth);
+pub fn entries(net: &Network, tree: &Tree, terms: Terms) -> Vec<Entry> {
+    let search = Search::new(net, tree, terms);
     (0..net.n()).map(|x| search.entry(x)).collect()
 }
 
@@ -219,10 +235,10 @@ pub fn check_room(n: usize, row: &[u64]) -> Result<(), Refusal> {
     Ok(())
 }
 
-/// Refusals 1 to 9, then 8 at x where x is no node; the tree where there is
-/// none.
-pub fn check_entry(net: &Network, depth: u16, x: u16) -> Result<Tree, Refusal> {
-    let tree = check(net, depth)?;
+/// The refusals of a check, then 8 at x where x is no node; the tree where
+/// there is none.
+pub fn check_entry(net: &Network, terms: Terms, x: u16) -> Result<Tree, Refusal> {
+    let tree = check(net, terms)?;
     if usize::from(x) >= net.n() {
         return refuse(Why::NoRoute, usize::from(x));
     }
@@ -230,16 +246,16 @@ pub fn check_entry(net: &Network, depth: u16, x: u16) -> Result<Tree, Refusal> {
 }
 
 /// The entry of node x by value, with the refusals of its check.
-pub fn entry_of(net: &Network, depth: u16, x: u16) -> Result<Entry, Refusal> {
-    let tree = check_entry(net, depth, x)?;
-    Ok(Search::new(net, &tree, depth).entry(usize::from(x)))
+pub fn entry_of(net: &Network, terms: Terms, x: u16) -> Result<Entry, Refusal> {
+    let tree = check_entry(net, terms, x)?;
+    Ok(Search::new(net, &tree, terms).entry(usize::from(x)))
 }
 
 /// Writes the table into the first n entries of the row.
-pub fn table(net: &Network, depth: u16, row: &mut [u64]) -> Result<(), Refusal> {
-    let tree = check(net, depth)?;
+pub fn table(net: &Network, terms: Terms, row: &mut [u64]) -> Result<(), Refusal> {
+    let tree = check(net, terms)?;
     check_room(net.n(), row)?;
-    for (x, entry) in entries(net, &tree, depth).iter().enumerate() {
+    for (x, entry) in entries(net, &tree, terms).iter().enumerate() {
         store(row, x, entry);
     }
     Ok(())

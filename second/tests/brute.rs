@@ -1,28 +1,43 @@
 //! The table, one entry, the map and the change against definitions walked
-//! plainly, on many small networks.
+//! plainly, on many small networks and by both rules.
 
 mod common;
 #[path = "common/plain.rs"]
 mod plain;
 
+use common::*;
 use second::change::{change, Change};
 use second::map::map;
 use second::network::Rows;
 use second::random;
 use second::rng::Rng;
 use second::table::{check_entry, entry_of, table};
+use second::terms::Terms;
+use second::ties;
 
 const DEPTHS: [u16; 5] = [65_535, 0, 1, 2, 510];
+const RULES: [u16; 2] = [0, 1];
 
+/// Any shape, and at times one on which many candidates tie.
 fn small_network(rng: &mut Rng) -> Rows {
+    if rng.chance(3) {
+        return ties::network(rng);
+    }
     let n = rng.from_to(1, 11);
     random::draft(rng, n).with_tree(rng)
 }
 
+/// A depth and a rule.
+fn some_terms(rng: &mut Rng) -> Terms {
+    by(rng.pick(&RULES), rng.pick(&DEPTHS))
+}
+
 #[test]
 fn the_plain_definitions_give_harbour() {
-    let harbour = common::harbour();
-    assert_eq!(plain::table(&harbour, 65_535), common::harbour_table());
+    for rule in RULES {
+        let table = plain::table(&harbour(), 65_535, rule);
+        assert_eq!(table, harbour_table());
+    }
 }
 
 /// All four states, costs of 0 and all eight triples of marks must have been
@@ -35,10 +50,11 @@ fn tables_are_equal() {
     let mut marks = [0; 8];
     for _ in 0..6_000 {
         let rows = small_network(&mut rng);
-        let depth = rng.pick(&DEPTHS);
+        let terms = some_terms(&mut rng);
         let mut row = vec![7; 10 * rows.parents.len()];
-        table(&rows.lend(), depth, &mut row).unwrap();
-        assert_eq!(row, plain::table(&rows, depth), "{rows:?} at depth {depth}");
+        table(&rows.lend(), terms, &mut row).unwrap();
+        let right = plain::table(&rows, terms.depth, terms.rule);
+        assert_eq!(row, right, "{rows:?} {terms:?}");
         for entry in row.chunks(10) {
             states[entry[0] as usize] += 1;
             free += usize::from(entry[0] == 1 && entry[4..7] == [0; 3]);
@@ -59,18 +75,19 @@ fn entries_by_value_are_equal() {
     for _ in 0..1_000 {
         let rows = small_network(&mut rng);
         let (net, n) = (rows.lend(), rows.parents.len());
-        let depth = rng.pick(&DEPTHS);
+        let terms = some_terms(&mut rng);
         for x in 0..n {
-            let entry = entry_of(&net, depth, x as u16).unwrap();
-            assert_eq!(entry.numbers(), plain::entry(&rows, depth, x));
-            assert!(check_entry(&net, depth, x as u16).is_ok());
+            let entry = entry_of(&net, terms, x as u16).unwrap();
+            let right = plain::entry(&rows, terms.depth, terms.rule, x);
+            assert_eq!(entry.numbers(), right);
+            assert!(check_entry(&net, terms, x as u16).is_ok());
         }
         for x in [n as u16, 65_535] {
             let right = Err((8, x as usize));
-            let answer = entry_of(&net, depth, x).map(|_| ());
-            assert_eq!(common::told(answer), right);
-            let answer = check_entry(&net, depth, x).map(|_| ());
-            assert_eq!(common::told(answer), right);
+            let answer = entry_of(&net, terms, x).map(|_| ());
+            assert_eq!(told(answer), right);
+            let answer = check_entry(&net, terms, x).map(|_| ());
+            assert_eq!(told(answer), right);
         }
     }
 }
@@ -80,14 +97,15 @@ fn maps_are_equal() {
     let mut rng = Rng::new(32);
     for _ in 0..300 {
         let rows = small_network(&mut rng);
-        let depth = rng.pick(&DEPTHS);
-        let map = map(&rows.lend(), depth, &mut [0; 8]).unwrap();
-        let entries = plain::table(&rows, depth);
+        let terms = some_terms(&mut rng);
+        let map = map(&rows.lend(), terms, &mut [0; 8]).unwrap();
+        let entries = plain::table(&rows, terms.depth, terms.rule);
         let open: Vec<usize> = (0..rows.parents.len())
             .filter(|&x| entries[10 * x] >= 2)
             .collect();
-        let bits: u64 = open.iter().map(|&x| 1 << x).sum();
-        assert_eq!(map.words, [bits, 0, 0, 0, 0, 0, 0, 0]);
+        let mut words = [0; 8];
+        open.iter().for_each(|x| words[x / 64] |= 1 << (x % 64));
+        assert_eq!(map.words, words);
         assert_eq!(map.count, open.len());
         assert_eq!(map.lowest, open.first().map_or(65_535, |&x| x as u16));
     }
@@ -130,7 +148,7 @@ fn changes_are_equal() {
     let mut verdicts = [0; 14];
     for _ in 0..3_000 {
         let before = small_network(&mut rng);
-        let depth = rng.pick(&DEPTHS);
+        let terms = some_terms(&mut rng);
         let m = plain::links(&before);
         let wanted = Change {
             link: rng.below(m + 2) as u16,
@@ -140,11 +158,11 @@ fn changes_are_equal() {
         let right = verdict(&before, &wanted);
         let mut rows = before.clone();
         let mut row = vec![7; 10 * rows.parents.len()];
-        let answer = common::told(change(&mut rows, depth, &mut row, &wanted));
+        let answer = told(change(&mut rows, terms, &mut row, &wanted));
         assert_eq!(answer, right, "{before:?} {wanted:?}");
         verdicts[right.map_or_else(|(number, _)| number as usize, |()| 0)] += 1;
         if right.is_ok() {
-            check_changed(&before, &rows, depth, &row, &wanted);
+            check_changed(&before, &rows, terms, &row, &wanted);
         } else {
             assert_eq!(
                 (rows, row),
@@ -158,7 +176,7 @@ fn changes_are_equal() {
     );
 }
 
-fn check_changed(before: &Rows, after: &Rows, depth: u16, row: &[u64], wanted: &Change) {
+fn check_changed(before: &Rows, after: &Rows, terms: Terms, row: &[u64], wanted: &Change) {
     let e = wanted.link as usize;
     let mut links = before.links.clone();
     links[4 * e + 2] = wanted.length;
@@ -168,12 +186,12 @@ fn check_changed(before: &Rows, after: &Rows, depth: u16, row: &[u64], wanted: &
     let on_path = path(before, a, b);
     for x in 0..before.parents.len() {
         let entry = &row[10 * x..10 * x + 10];
-        let fresh = plain::entry(after, depth, x);
+        let fresh = plain::entry(after, terms.depth, terms.rule, x);
         if on_path.contains(&x) {
             assert_eq!(entry, fresh);
         } else {
             assert_eq!(entry, [7; 10]);
-            assert_eq!(fresh, plain::entry(before, depth, x));
+            assert_eq!(fresh, plain::entry(before, terms.depth, terms.rule, x));
         }
     }
 }

@@ -4,10 +4,13 @@ mod common;
 
 use second::answers::{answer, answers};
 use second::cases::{fixed, input, kept, ops, random, ENDINGS};
+use second::change::{set as set_link, Change};
 use second::listing::listing;
+use second::network::Rows;
 use second::probe::{next, Case, Next};
 use second::rng::Rng;
 use second::samples::samples;
+use second::table::table;
 use std::collections::BTreeSet;
 
 /// The verdict printed for a case: the number and place, or 0 for `ok`.
@@ -34,13 +37,23 @@ fn cases_of(mut input: &[u8]) -> (Vec<Case>, &[u8]) {
     (met, input)
 }
 
+/// The cases that are kept with the probe.
+fn kept_cases() -> Vec<Case> {
+    let bytes = kept();
+    let (cases, rest) = cases_of(&bytes);
+    assert!(rest.is_empty());
+    cases
+}
+
+/// The cases of an op among others.
+fn of(op: u16, cases: &[Case]) -> Vec<Case> {
+    let of_op = cases.iter().filter(|case| case.op == op);
+    of_op.cloned().collect()
+}
+
 /// The cases of an op that are kept with the probe.
 fn kept_of(op: u16) -> Vec<Case> {
-    let bytes = kept();
-    let (mut cases, rest) = cases_of(&bytes);
-    assert!(rest.is_empty());
-    cases.retain(|case| case.op == op);
-    cases
+    of(op, &kept_cases())
 }
 
 fn set(numbers: &[u16]) -> BTreeSet<u16> {
@@ -49,25 +62,33 @@ fn set(numbers: &[u16]) -> BTreeSet<u16> {
 
 #[test]
 fn every_refusal_of_every_op_is_met() {
+    let all = kept_cases();
     let network: Vec<u16> = (0..=10).collect();
-    assert_eq!(verdicts(&fixed(1)), set(&network[..10]));
-    for op in [2, 3, 6] {
-        assert_eq!(verdicts(&fixed(op)), set(&network));
+    let checked = [&network[..10], &[14]].concat();
+    let searched = [&network[..], &[14]].concat();
+    for cases in [fixed(1), of(1, &all)] {
+        assert_eq!(verdicts(&cases), set(&checked));
     }
-    let change: Vec<u16> = (0..=13).collect();
+    for op in [2, 3] {
+        assert_eq!(verdicts(&fixed(op)), set(&searched));
+        assert_eq!(verdicts(&of(op, &all)), set(&searched));
+    }
+    assert_eq!(verdicts(&fixed(6)), set(&network));
+    let change: Vec<u16> = (0..=14).collect();
     for op in [4, 5] {
         assert_eq!(verdicts(&fixed(op)), set(&change));
+        assert_eq!(verdicts(&of(op, &all)), set(&change));
     }
     let file = [&network[..], &[20, 21, 22, 24]].concat();
     assert_eq!(verdicts(&fixed(7)), set(&file));
     assert_eq!(verdicts(&fixed(8)), set(&[0, 20, 21, 22]));
     assert_eq!(verdicts(&fixed(9)), forward_verdicts());
-    assert_eq!(verdicts(&kept_of(9)), forward_verdicts());
+    assert_eq!(verdicts(&of(9, &all)), forward_verdicts());
 }
 
 /// The verdicts of the forwarder.
 fn forward_verdicts() -> BTreeSet<u16> {
-    (0..=10).chain(15..=17).collect()
+    (0..=10).chain(14..=17).collect()
 }
 
 /// The verdicts of the project's own ops.
@@ -75,7 +96,7 @@ fn own_verdicts(op: u16) -> BTreeSet<u16> {
     match op {
         101 => set(&[0, 1, 8, 10]),
         102 | 103 => set(&[0, 1, 8]),
-        _ => (0..=9).collect(),
+        _ => (0..=9).chain([14]).collect(),
     }
 }
 
@@ -83,10 +104,10 @@ fn own_verdicts(op: u16) -> BTreeSet<u16> {
 fn every_refusal_of_every_own_op_is_kept() {
     for op in 101..=105 {
         let (cases, all) = (kept_of(op), fixed(op));
-        assert!((40..=90).contains(&cases.len()), "{op}: {}", cases.len());
+        assert!((40..=150).contains(&cases.len()), "{op}: {}", cases.len());
         assert_eq!(verdicts(&cases), own_verdicts(op), "{op}");
         assert_eq!(verdicts(&all), own_verdicts(op), "{op}");
-        assert_eq!(all[..cases.len()], cases);
+        assert!(cases.iter().all(|case| all.contains(case)));
     }
 }
 
@@ -136,7 +157,7 @@ fn the_network_comes_before_the_node_among_the_kept() {
                 (verdict(case).0, is_node)
             })
             .collect();
-        assert_eq!(met.len(), 18, "{met:?}");
+        assert_eq!(met.len(), 20, "{met:?}");
         let alone = cases.iter().filter(|case| causes(case).is_empty());
         assert_eq!(verdicts(&alone.cloned().collect::<Vec<_>>()), set(&[0, 8]));
     }
@@ -177,7 +198,10 @@ fn distance(case: &Case, x: usize) -> Option<u64> {
     None
 }
 
-/// The refusals of a network that have a cause in a case, each asked alone.
+/// The refusals of a check in their order.
+const ORDER: [u16; 10] = [1, 2, 3, 4, 14, 5, 6, 7, 8, 9];
+
+/// The refusals of a check that have a cause in a case, each asked alone.
 fn causes(case: &Case) -> BTreeSet<u16> {
     let (n, records) = (case.parents.len(), case.links.chunks_exact(4));
     let root = case.root as usize;
@@ -191,6 +215,7 @@ fn causes(case: &Case) -> BTreeSet<u16> {
     put(2, case.links.len() / 4 > 2_048);
     put(3, root >= n);
     put(4, case.depth > 510 && case.depth < 65_535);
+    put(14, case.rule > 1);
     put(
         5,
         records
@@ -235,16 +260,151 @@ fn breaks(case: &Case, record: &[u16]) -> bool {
     }
 }
 
-/// For every two refusals of a network some fixed case has a cause of both.
-/// Only 3 with 9 cannot be: where the root is no node, no node has a route.
+/// For every two refusals of a check some fixed case has a cause of both. Only 3
+/// with 9 cannot be: where the root is no node, no node has a route. The first
+/// cause in order is told.
 #[test]
 fn every_pair_of_network_faults_is_met() {
-    let found: Vec<BTreeSet<u16>> = fixed(1).iter().map(causes).collect();
-    for one in 1..=9 {
-        for two in one + 1..=9 {
-            let met = found.iter().any(|f| f.contains(&one) && f.contains(&two));
-            assert_eq!(met, (one, two) != (3, 9), "{one} with {two}");
+    let cases = fixed(1);
+    let found: Vec<BTreeSet<u16>> = cases.iter().map(causes).collect();
+    for (i, one) in ORDER.iter().enumerate() {
+        for two in &ORDER[i + 1..] {
+            let met = found.iter().any(|f| f.contains(one) && f.contains(two));
+            assert_eq!(met, (*one, *two) != (3, 9), "{one} with {two}");
         }
+    }
+    for (case, found) in cases.iter().zip(&found) {
+        let first = ORDER.into_iter().find(|number| found.contains(number));
+        assert_eq!(verdict(case).0, first.unwrap_or(0), "{case:?}");
+    }
+}
+
+/// The ops that take a search.
+const SEARCHES: [u16; 8] = [1, 2, 3, 4, 5, 9, 104, 105];
+
+/// Among the kept cases of every op that takes a search 14 is met alone, with
+/// every refusal that comes before it, which is told, and with every refusal of a
+/// check behind it, which is not.
+#[test]
+fn refusal_14_is_kept_with_every_other() {
+    let all = kept_cases();
+    for op in SEARCHES {
+        let cases = of(op, &all);
+        let bad: Vec<(u16, BTreeSet<u16>)> = cases
+            .iter()
+            .map(|case| (verdict(case).0, causes(case)))
+            .filter(|(_, found)| found.contains(&14))
+            .collect();
+        assert!(bad.contains(&(14, set(&[14]))), "{op}");
+        for other in ORDER.into_iter().filter(|&number| number != 14) {
+            let told = if other < 5 { other } else { 14 };
+            let met = |(number, found): &(u16, _)| {
+                let found: &BTreeSet<u16> = found;
+                *number == told && found.contains(&other)
+            };
+            assert!(bad.iter().any(met), "{op}: {other}");
+        }
+    }
+}
+
+/// The kept cases of an op with a rule that is none: what they say by it, and what
+/// they would say by rule 0.
+fn ruled_out(op: u16, kept: &[Case]) -> Vec<(u16, u16)> {
+    let mut cases = of(op, kept);
+    cases.retain(|case| case.rule > 1);
+    let both = |case: &Case| (verdict(case).0, verdict(&case.clone().by(0)).0);
+    cases.iter().map(both).collect()
+}
+
+/// 14 is told before the room, before the refusals of a change and of a way, and
+/// before 8 at what is no node; never in an op that takes no search.
+#[test]
+fn refusal_14_is_kept_before_what_comes_last() {
+    let all = kept_cases();
+    for (op, later) in [
+        (2, &[10][..]),
+        (3, &[10]),
+        (4, &[10, 11, 6, 12, 13]),
+        (5, &[10, 11, 6, 12, 13]),
+        (9, &[10, 15, 16, 17]),
+        (104, &[8]),
+        (105, &[8]),
+    ] {
+        let told = ruled_out(op, &all);
+        for &number in [0].iter().chain(later) {
+            assert!(told.contains(&(14, number)), "{op}: {number}");
+        }
+    }
+    for op in [6, 7, 8, 101, 102, 103] {
+        let told = ruled_out(op, &all);
+        assert!(told.contains(&(0, 0)), "{op}");
+        assert!(told.iter().all(|(by_none, by_0)| by_none == by_0), "{op}");
+    }
+}
+
+/// Every op has the two rules among its kept cases, and 2 and 65,535.
+#[test]
+fn every_rule_is_kept_for_every_op() {
+    let all = kept_cases();
+    for op in (1..=9).chain(101..=105) {
+        let rules: BTreeSet<u16> = of(op, &all).iter().map(|case| case.rule).collect();
+        for rule in [0, 1, 2, 65_535] {
+            assert!(rules.contains(&rule), "{op}: {rule}");
+        }
+    }
+}
+
+/// Among the kept cases some by either rule say otherwise by the other: tables,
+/// changes and entries of nodes; and ways under sum and under max. Checks, maps and
+/// ways under incr never do, nor does any op that takes no search.
+#[test]
+fn the_rules_part_among_the_kept() {
+    let all = kept_cases();
+    let parts = |op: u16, rule: u16, measure: Option<u16>| {
+        let mut cases = of(op, &all);
+        cases.retain(|case| case.rule == rule && measure.map_or(true, |c| case.abc[2] % 3 == c));
+        let differs = |case: &Case| answer(case) != answer(&case.clone().by(1 - rule));
+        cases.iter().filter(|case| differs(case)).count()
+    };
+    for rule in [0, 1] {
+        for op in [2, 4, 5, 104] {
+            assert!(parts(op, rule, None) > 4, "{op} by {rule}");
+        }
+        for measure in [0, 2] {
+            assert!(parts(9, rule, Some(measure)) > 4, "{measure} by {rule}");
+        }
+        assert_eq!(parts(9, rule, Some(1)), 0);
+        for op in [1, 3, 6, 7, 8, 101, 102, 103, 105] {
+            assert_eq!(parts(op, rule, None), 0, "{op} by {rule}");
+        }
+    }
+}
+
+/// Whether the rules choose apart somewhere in the table of a network.
+fn choose_apart(rows: &Rows, depth: u16) -> bool {
+    let table_by = |rule: u16| {
+        let mut row = vec![7; 10 * rows.parents.len()];
+        table(&rows.lend(), common::by(rule, depth), &mut row).unwrap();
+        row
+    };
+    table_by(0) != table_by(1)
+}
+
+/// Among the kept changes by either rule are such after which the rules choose
+/// apart and did not before, the other way about, and both before and after.
+#[test]
+fn changes_make_and_end_ties_among_the_kept() {
+    for op in [4, 5] {
+        let mut met = BTreeSet::new();
+        let cases = kept_of(op);
+        for case in cases.iter().filter(|case| verdict(case).0 == 0) {
+            let [link, mark, length] = case.abc;
+            let (before, mut after) = (case.rows(), case.rows());
+            set_link(&mut after, &Change { link, mark, length });
+            let apart = [before, after].map(|rows| choose_apart(&rows, case.depth));
+            met.insert((case.rule, apart));
+        }
+        assert_eq!(met.len(), 8, "{op}: {met:?}");
     }
 }
 
@@ -357,6 +517,20 @@ impl Cause {
             Cause::NoSwap => 17,
         }
     }
+
+    /// Where it stands in the order.
+    fn place(&self) -> usize {
+        let own = OWN_CAUSES.iter().position(|cause| cause == self);
+        match self {
+            Cause::Network(number) => place(*number),
+            _ => ORDER.len() + own.unwrap(),
+        }
+    }
+}
+
+/// Where a refusal of a check stands in their order.
+fn place(number: u16) -> usize {
+    ORDER.iter().position(|&other| other == number).unwrap()
 }
 
 /// The causes that a case gives the forwarder, each asked alone. No link
@@ -386,8 +560,9 @@ fn the_first_cause_is_told() {
     let mut cases = fixed(9);
     cases.extend((0..2_000).map(|_| random(&mut rng, 9)));
     for case in cases {
-        let first = forward_causes(&case).into_iter().map(Cause::number).min();
-        assert_eq!(verdict(&case).0, first.unwrap_or(0), "{case:?}");
+        let first = forward_causes(&case).into_iter().min_by_key(Cause::place);
+        let told = first.map_or(0, Cause::number);
+        assert_eq!(verdict(&case).0, told, "{case:?}");
     }
 }
 
@@ -402,10 +577,10 @@ fn every_pair_of_forward_faults_is_met() {
         .iter()
         .map(|case| (verdict(case).0, forward_causes(case)))
         .collect();
-    let network = (1..=9).map(Cause::Network);
+    let network = ORDER.into_iter().map(Cause::Network);
     let all: Vec<Cause> = network.chain(OWN_CAUSES).collect();
     let mut pairs = 0;
-    for (i, &two) in all.iter().enumerate().skip(9) {
+    for (i, &two) in all.iter().enumerate().skip(ORDER.len()) {
         for &one in &all[..i] {
             let met = found.iter().any(|(told, causes)| {
                 *told == one.number() && causes.contains(&one) && causes.contains(&two)
@@ -421,7 +596,7 @@ fn every_pair_of_forward_faults_is_met() {
         let never = [Cause::NoFailed, Cause::RootFailed].contains(&two);
         assert_eq!(met, !never, "{two:?} alone");
     }
-    assert_eq!(pairs, 9 * 6 + 14);
+    assert_eq!(pairs, ORDER.len() * 6 + 14);
 }
 
 /// The way of a case of the forwarder that is answered: whether it is a detour,
@@ -446,7 +621,7 @@ fn the_forwarder_at_random() {
     for (number, least) in [(10, 150), (15, 100), (16, 100), (17, 200)] {
         assert!(count(number) > least, "{number}: {}", count(number));
     }
-    for number in 1..=9 {
+    for number in ORDER {
         assert!(count(number) > 10, "{number}: {}", count(number));
     }
     let (mut ordinary, mut detours, mut twice) = (0, 0, 0);

@@ -16,6 +16,8 @@ use second::network::Rows;
 use second::probe::{next, Case, Next};
 use second::random;
 use second::rng::Rng;
+use second::terms::Terms;
+use second::ties;
 
 const WHOLE: u16 = 65_535;
 const MEASURES: [Measure; 3] = [Measure::Sum, Measure::Incr, Measure::Max];
@@ -28,12 +30,12 @@ type Said<T> = Result<T, (u16, usize)>;
 fn told_in(
     rooms: [usize; 2],
     rows: &Rows,
-    depth: u16,
+    terms: Terms,
     asked: Asked,
 ) -> Said<(bool, Vec<usize>, u64)> {
     let [mut ordinary, mut detour] = rooms.map(|room| vec![7; room]);
     let lent = [&mut ordinary[..], &mut detour[..]];
-    let answer = told(forward(&rows.lend(), depth, &asked, lent));
+    let answer = told(forward(&rows.lend(), terms, &asked, lent));
     let sevens = |row: &[u16]| row.iter().all(|&number| number == 7);
     let told = match answer {
         Ok(told) => told,
@@ -51,10 +53,21 @@ fn told_in(
     Ok((told.kind == Kind::Detour, nodes, told.length))
 }
 
-/// The same in rows that are just long enough.
+/// The same by rule 0, in rows that are just long enough.
 fn told_of(
     rows: &Rows,
     depth: u16,
+    start: u16,
+    failed: u16,
+    measure: Measure,
+) -> Said<(bool, Vec<usize>, u64)> {
+    told_by(rows, at(depth), start, failed, measure)
+}
+
+/// The same by any rule.
+fn told_by(
+    rows: &Rows,
+    terms: Terms,
     start: u16,
     failed: u16,
     measure: Measure,
@@ -64,7 +77,7 @@ fn told_of(
         failed,
         measure,
     };
-    told_in([1_022; 2], rows, depth, asked)
+    told_in([1_022; 2], rows, terms, asked)
 }
 
 /// An ordinary way, a detour, and a refusal, as they are told.
@@ -214,7 +227,7 @@ fn the_longest_way() {
 }
 
 /// Each row needs 1,022 numbers, however short the way is; 10 comes before 15,
-/// 16 and 17, and 1 to 9 before 10.
+/// 16 and 17, and 1 to 9 before 10; 14 stands between 4 and 5.
 #[test]
 fn short_rows_and_the_order() {
     let rows = harbour();
@@ -223,7 +236,7 @@ fn short_rows_and_the_order() {
         failed,
         measure: Measure::Sum,
     };
-    let in_rooms = |rooms, start, failed| told_in(rooms, &rows, WHOLE, asked(start, failed));
+    let in_rooms = |rooms, start, failed| told_in(rooms, &rows, at(WHOLE), asked(start, failed));
     let all = [(4, 1), (0, 1), (3, 1), (5, 1), (3, 0), (3, 5), (4, 4)];
     for (start, failed) in all {
         for short in [0, 1, 1_021] {
@@ -250,23 +263,24 @@ fn short_rows_and_the_order() {
     }
     let mut no_root = rows.clone();
     no_root.root = 5;
-    let answer = told_in([0; 2], &no_root, WHOLE, asked(5, 5));
+    let answer = told_in([0; 2], &no_root, at(WHOLE), asked(5, 5));
     assert_eq!(answer, Err((3, 0)));
-    let answer = told_in([0; 2], &rows, 511, asked(5, 5));
+    let answer = told_in([0; 2], &rows, by(2, 511), asked(5, 5));
     assert_eq!(answer, Err((4, 0)));
+    let mut no_ends = rows.clone();
+    no_ends.links[1] = 0;
+    let answer = told_in([0; 2], &no_ends, by(2, 510), asked(5, 5));
+    assert_eq!(answer, Err((14, 0)));
 }
 
 /// The swap link, z and z' of x under a measure; none where x has no candidate.
-fn swap(rows: &Rows, depth: u16, x: usize, measure: usize) -> Option<(usize, usize, usize)> {
-    let list = plain::candidates(rows, depth, x);
-    let priced: Vec<(usize, [u64; 3])> = list
-        .iter()
-        .map(|&link| (link.0, plain::costs(rows, x, link)))
-        .collect();
+fn swap(rows: &Rows, terms: Terms, x: usize, measure: usize) -> Option<(usize, usize, usize)> {
+    let priced = plain::priced(rows, terms.depth, x);
     if priced.is_empty() {
         return None;
     }
-    let (best, _) = plain::best(&priced, measure);
+    let (best, _) = plain::best(&priced, measure, terms.rule);
+    let list = plain::candidates(rows, terms.depth, x);
     list.into_iter().find(|link| link.0 as u64 == best)
 }
 
@@ -343,13 +357,13 @@ fn random_networks_have_the_plain_ways() {
     for _ in 0..700 {
         let n = rng.from_to(1, 10);
         let rows = random::draft(&mut rng, n).with_tree(&mut rng);
-        let depth = rng.pick(&[WHOLE, WHOLE, 0, 1, 2, 510]);
+        let terms = by(rng.pick(&[0, 1]), rng.pick(&[WHOLE, WHOLE, 0, 1, 2, 510]));
         let (n, root) = (rows.parents.len(), usize::from(rows.root));
         for x in (0..n).filter(|&x| x != root) {
             for (k, measure) in MEASURES.into_iter().enumerate() {
-                let link = swap(&rows, depth, x, k);
+                let link = swap(&rows, terms, x, k);
                 for start in 0..n {
-                    let answer = told_of(&rows, depth, start as u16, x as u16, measure);
+                    let answer = told_by(&rows, terms, start as u16, x as u16, measure);
                     let up = plain::route(&rows, start);
                     if !up.contains(&x) {
                         assert_eq!(answer, ordinary(&up, plain::d(&rows, start)));
@@ -372,36 +386,41 @@ fn random_networks_have_the_plain_ways() {
                 }
             }
         }
-        check_refused(&mut rng, &rows, depth);
+        check_refused(&mut rng, &rows, terms);
     }
     assert!(met.iter().all(|&count| count > 2_000), "{met:?}");
 }
 
 /// Numbers that are no node, and the root as the failed node.
-fn check_refused(rng: &mut Rng, rows: &Rows, depth: u16) {
+fn check_refused(rng: &mut Rng, rows: &Rows, terms: Terms) {
     let n = rows.parents.len() as u16;
     let measure = rng.pick(&MEASURES);
     let node = rng.below(rows.parents.len()) as u16;
     for none in [n, n + 1, 65_535] {
         for failed in [node, rows.root, none] {
-            let answer = told_of(rows, depth, none, failed, measure);
+            let answer = told_by(rows, terms, none, failed, measure);
             assert_eq!(answer, Err((15, 0)));
         }
         for failed in [rows.root, none] {
-            let answer = told_of(rows, depth, node, failed, measure);
+            let answer = told_by(rows, terms, node, failed, measure);
             assert_eq!(answer, Err((16, 0)));
         }
     }
 }
 
-/// Larger networks, a few ways of each.
+/// Larger networks, a few ways of each; half of them are such on which many
+/// candidates tie.
 #[test]
 fn larger_networks_have_the_plain_ways() {
     let mut rng = Rng::new(72);
-    let mut met = 0;
-    for _ in 0..60 {
+    let (mut met, mut apart) = (0, 0);
+    for i in 0..120 {
         let n = rng.from_to(20, 60);
-        let rows = random::draft(&mut rng, n).with_tree(&mut rng);
+        let rows = match i % 2 {
+            0 => random::draft(&mut rng, n).with_tree(&mut rng),
+            _ => ties::network(&mut rng),
+        };
+        let terms = by(rng.pick(&[0, 1]), WHOLE);
         let n = rows.parents.len();
         for _ in 0..12 {
             let start = rng.below(n);
@@ -411,19 +430,21 @@ fn larger_networks_have_the_plain_ways() {
             }
             let x = up[rng.below(up.len() - 1)];
             let k = rng.below(3);
-            let answer = told_of(&rows, WHOLE, start as u16, x as u16, MEASURES[k]);
-            match swap(&rows, WHOLE, x, k) {
+            let answer = told_by(&rows, terms, start as u16, x as u16, MEASURES[k]);
+            match swap(&rows, terms, x, k) {
                 Some(link) => {
                     let (is_detour, nodes, length) = answer.unwrap();
                     assert!(is_detour);
                     check_detour(&rows, [start, x], link, &nodes, length);
                     met += 1;
+                    let other = swap(&rows, by(1 - terms.rule, WHOLE), x, k);
+                    apart += usize::from(other != Some(link));
                 }
                 None => assert_eq!(answer, Err((17, x))),
             }
         }
     }
-    assert!(met > 200, "{met}");
+    assert!(met > 400 && apart > 50, "{met} {apart}");
 }
 
 /// A way to read what is asked: the right one, and wrong ones.
@@ -462,9 +483,11 @@ enum Reading {
     /// The place of 17 is 0, or the start.
     PlaceZero,
     PlaceStart,
+    /// The rule does not count.
+    NoRule,
 }
 
-const WRONG: [Reading; 16] = [
+const WRONG: [Reading; 17] = [
     Reading::FailedTwice,
     Reading::FromTheMeet,
     Reading::EndsAcross,
@@ -481,6 +504,7 @@ const WRONG: [Reading; 16] = [
     Reading::RootFails,
     Reading::PlaceZero,
     Reading::PlaceStart,
+    Reading::NoRule,
 ];
 
 /// What a case of a sound network asks, by a reading.
@@ -526,14 +550,15 @@ fn way_as(
         3.. if is(Reading::OverIsMax) => 2,
         _ => c % 3,
     };
-    let depth = if is(Reading::NoDepth) {
-        WHOLE
-    } else {
-        case.depth
-    };
+    let mut terms = case.terms();
+    match how {
+        Reading::NoDepth => terms.depth = WHOLE,
+        Reading::NoRule => terms.rule = 0,
+        _ => {}
+    }
     let up = plain::route(rows, start);
     let cut = up.contains(&x) && !(start == x && is(Reading::FailedIsNotCutOff));
-    let link = swap(rows, depth, x, measure);
+    let link = swap(rows, terms, x, measure);
     let place = match how {
         Reading::PlaceZero => 0,
         Reading::PlaceStart => start,
@@ -600,7 +625,7 @@ fn the_kept_ways_tell_wrong_readings_apart() {
     }
     assert!(input.is_empty());
     cases.retain(|case| case.op == 9 && case.parents.len() < 20);
-    cases.retain(|case| check(&case.rows().lend(), case.depth).is_ok());
+    cases.retain(|case| check(&case.rows().lend(), case.terms()).is_ok());
     assert!(cases.len() > 300, "{}", cases.len());
     let right: Vec<_> = cases.iter().map(printed).collect();
     for (case, right) in cases.iter().zip(&right) {

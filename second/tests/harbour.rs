@@ -13,7 +13,7 @@ use second::table::table;
 /// The table of a network at a depth.
 fn table_of(rows: &Rows, depth: u16) -> Vec<u64> {
     let mut row = vec![7; 10 * rows.parents.len()];
-    table(&rows.lend(), depth, &mut row).unwrap();
+    table(&rows.lend(), at(depth), &mut row).unwrap();
     row
 }
 
@@ -22,7 +22,7 @@ fn changed(link: u16, mark: u16, length: u16) -> (Result<(), (u16, usize)>, Rows
     let mut rows = harbour();
     let mut row = vec![7; 50];
     let wanted = Change { link, mark, length };
-    let answer = told(change(&mut rows, WHOLE, &mut row, &wanted));
+    let answer = told(change(&mut rows, at(WHOLE), &mut row, &wanted));
     (answer, rows, row)
 }
 
@@ -118,16 +118,19 @@ fn withdrawing_needs_no_shortness_and_stores_the_length() {
 #[test]
 fn the_map_of_harbour() {
     let mut row = [7; 9];
-    let whole = map(&harbour().lend(), WHOLE, &mut row).unwrap();
+    let whole = map(&harbour().lend(), at(WHOLE), &mut row).unwrap();
     assert_eq!(row, [16, 0, 0, 0, 0, 0, 0, 0, 7]);
     assert_eq!((whole.count, whole.lowest), (1, 4));
-    let near = map(&harbour().lend(), 0, &mut row).unwrap();
+    let near = map(&harbour().lend(), at(0), &mut row).unwrap();
     assert_eq!(row, [18, 0, 0, 0, 0, 0, 0, 0, 7]);
     assert_eq!((near.count, near.lowest), (2, 1));
     let one = rows(&[65_535], &[], 0);
-    let none = map(&one.lend(), WHOLE, &mut row).unwrap();
+    let none = map(&one.lend(), at(WHOLE), &mut row).unwrap();
     assert_eq!((none.count, none.lowest), (0, 65_535));
-    assert_eq!(told(map(&one.lend(), WHOLE, &mut row[..7])), Err((10, 0)));
+    assert_eq!(
+        told(map(&one.lend(), at(WHOLE), &mut row[..7])),
+        Err((10, 0))
+    );
 }
 
 /// Every node joined to node 0.
@@ -139,7 +142,7 @@ fn star(n: u16) -> Rows {
 
 #[test]
 fn the_limits() {
-    let verdict = |rows: &Rows, depth| told(check(&rows.lend(), depth).map(|_| ()));
+    let verdict = |rows: &Rows, depth| told(check(&rows.lend(), at(depth)).map(|_| ()));
     let two = |m: usize| rows(&[65_535, 0], &vec![[0, 1, 3]; m], 0);
     assert_eq!(verdict(&star(512), WHOLE), Ok(()));
     assert_eq!(verdict(&star(513), WHOLE), Err((1, 0)));
@@ -160,7 +163,7 @@ fn refusals_5_to_9_and_their_places() {
     let verdict = |edit: &dyn Fn(&mut Rows)| {
         let mut rows = harbour();
         edit(&mut rows);
-        told(check(&rows.lend(), WHOLE).map(|_| ())).unwrap_err()
+        told(check(&rows.lend(), at(WHOLE)).map(|_| ())).unwrap_err()
     };
     assert_eq!(verdict(&|r| r.links[13] = 5), (5, 3));
     assert_eq!(verdict(&|r| r.links[8] = 3), (5, 2));
@@ -175,30 +178,35 @@ fn refusals_5_to_9_and_their_places() {
     assert_eq!(verdict(&|r| r.links[14] = 4), (9, 3));
 }
 
-/// Faults are put into Harbour one after the other, from 9 down to 1; the
-/// last one put in is the one told. Short room, 10, comes after all of them.
+/// Faults are put into Harbour one after the other, from 9 down to 5, 14, and from
+/// 4 down to 1; the last one put in is the one told. Short room, 10, comes after
+/// all of them.
 #[test]
 fn the_order_of_a_network() {
     let mut rows = harbour();
-    let mut depth = WHOLE;
-    for number in (1..=9).rev() {
+    let mut terms = at(WHOLE);
+    for number in [9, 8, 7, 6, 5, 14, 4, 3, 2, 1] {
         match number {
             9 => rows.links[22] = 1,
             8 => rows.parents[2..4].fill(5),
             7 => rows.parents[4] = 5,
             6 => rows.links[19] = 2,
             5 => rows.links[13] = 700,
-            4 => depth = 511,
+            14 => terms.rule = 2,
+            4 => terms.depth = 511,
             3 => rows.root = 600,
             2 => rows.links.resize(4 * 2_049, 9),
             _ => rows.parents.resize(513, 9),
         }
-        let place = [0, 0, 0, 0, 0, 3, 4, 4, 2, 5][number];
+        let place = match number {
+            5..=9 => [3, 4, 4, 2, 5][number - 5],
+            _ => 0,
+        };
         let right = Err((number as u16, place));
-        assert_eq!(told(check(&rows.lend(), depth).map(|_| ())), right);
-        assert_eq!(told(table(&rows.lend(), depth, &mut [7; 49])), right);
+        assert_eq!(told(check(&rows.lend(), terms).map(|_| ())), right);
+        assert_eq!(told(table(&rows.lend(), terms, &mut [7; 49])), right);
         assert_eq!(
-            told(map(&rows.lend(), depth, &mut [7; 7]).map(|_| ())),
+            told(map(&rows.lend(), terms, &mut [7; 7]).map(|_| ())),
             right
         );
         let wanted = Change {
@@ -206,13 +214,13 @@ fn the_order_of_a_network() {
             mark: 2,
             length: 1,
         };
-        let answer = told(change(&mut rows, depth, &mut [7; 49], &wanted));
+        let answer = told(change(&mut rows, terms, &mut [7; 49], &wanted));
         assert_eq!(answer, right);
     }
     let mut rows = harbour();
     for (link, mark, length, right) in [(7, 2, 1, (10, 0)), (0, 2, 1, (10, 0))] {
         let wanted = Change { link, mark, length };
-        let answer = told(change(&mut rows, WHOLE, &mut [7; 49], &wanted));
+        let answer = told(change(&mut rows, at(WHOLE), &mut [7; 49], &wanted));
         assert_eq!(answer, Err(right));
     }
 }
@@ -222,7 +230,7 @@ fn the_order_of_a_network() {
 fn the_lowest_node_without_a_route_need_not_lie_on_the_cycle() {
     let links = [[0, 1, 0], [1, 2, 0], [2, 3, 0]];
     let below = rows(&[65_535, 1, 2, 2], &links, 0);
-    assert_eq!(told(check(&below.lend(), 0).map(|_| ())), Err((8, 1)));
+    assert_eq!(told(check(&below.lend(), at(0)).map(|_| ())), Err((8, 1)));
 }
 
 /// A path of 512 with every link twice, all of length 65,535. For node 1
@@ -264,8 +272,14 @@ fn only_whole_records_count() {
     partial.links.extend([9, 9, 9]);
     assert_eq!(table_of(&partial, WHOLE), harbour_table());
     partial.links.push(9);
-    assert_eq!(told(check(&partial.lend(), WHOLE).map(|_| ())), Err((5, 7)));
+    assert_eq!(
+        told(check(&partial.lend(), at(WHOLE)).map(|_| ())),
+        Err((5, 7))
+    );
     let mut row = [7; 49];
-    assert_eq!(told(table(&harbour().lend(), 0, &mut row)), Err((10, 0)));
+    assert_eq!(
+        told(table(&harbour().lend(), at(0), &mut row)),
+        Err((10, 0))
+    );
     assert_eq!(row, [7; 49]);
 }

@@ -18,6 +18,7 @@ use second::random;
 use second::reader::read;
 use second::rng::Rng;
 use second::table::{entry_of, table};
+use second::terms::Terms;
 use std::collections::BTreeSet;
 
 type Entry = [u64; 10];
@@ -25,10 +26,15 @@ type Entry = [u64; 10];
 const BRIDGE: Entry = [3, NONE, NONE, NONE, 0, 0, 0, 0, 0, 0];
 const BEYOND: Entry = [2, NONE, NONE, NONE, 0, 0, 0, 0, 0, 0];
 
-/// The entries of a network, one a node.
+/// The entries of a network by rule 0, one a node.
 fn entries(rows: &Rows, depth: u16) -> Vec<Entry> {
+    entries_by(rows, at(depth))
+}
+
+/// The entries of a network by any rule.
+fn entries_by(rows: &Rows, terms: Terms) -> Vec<Entry> {
     let mut row = vec![7; 10 * rows.parents.len()];
-    table(&rows.lend(), depth, &mut row).unwrap();
+    table(&rows.lend(), terms, &mut row).unwrap();
     row.chunks(10)
         .map(|entry| entry.try_into().unwrap())
         .collect()
@@ -138,7 +144,7 @@ fn after(rows: &Rows, [link, mark, length]: [u16; 3]) -> Entry {
     let mut rows = rows.clone();
     let mut row = entries(&rows, WHOLE).concat();
     let wanted = Change { link, mark, length };
-    change(&mut rows, WHOLE, &mut row, &wanted).unwrap();
+    change(&mut rows, at(WHOLE), &mut row, &wanted).unwrap();
     assert_eq!(row, entries(&rows, WHOLE).concat());
     row[10..20].try_into().unwrap()
 }
@@ -228,7 +234,7 @@ fn the_kept_entries_tell_wrong_readings_apart() {
     let mut differs = [false; WRONG.len()];
     for case in cases_of(&kept()).iter().filter(|case| case.op == 104) {
         let (rows, x) = (case.rows(), case.abc[0]);
-        let entry = match entry_of(&rows.lend(), case.depth, x) {
+        let entry = match entry_of(&rows.lend(), case.terms(), x) {
             Ok(entry) if entry.numbers()[0] == 1 => entry.numbers(),
             _ => continue,
         };
@@ -251,8 +257,8 @@ fn the_kept_entries_tell_wrong_readings_apart() {
 fn every_triple_of_marks_is_among_the_kept() {
     let mut met = BTreeSet::new();
     for case in cases_of(&kept()).iter().filter(|case| case.op == 2) {
-        if check(&case.rows().lend(), case.depth).is_ok() {
-            let list = entries(&case.rows(), case.depth);
+        if check(&case.rows().lend(), case.terms()).is_ok() {
+            let list = entries_by(&case.rows(), case.terms());
             let swaps = list.iter().filter(|entry| entry[0] == 1);
             met.extend(swaps.map(|entry| entry[7..].to_vec()));
         }
@@ -269,14 +275,14 @@ fn changes_turn_every_mark_among_the_kept() {
         let (mut turns, mut states) = (BTreeSet::new(), BTreeSet::new());
         for case in cases_of(&kept()).iter().filter(|case| case.op == op) {
             let mut rows = case.rows();
-            if check(&rows.lend(), case.depth).is_err() {
+            if check(&rows.lend(), case.terms()).is_err() {
                 continue;
             }
-            let before = entries(&rows, case.depth);
+            let before = entries_by(&rows, case.terms());
             let [link, mark, length] = case.abc;
             let wanted = Change { link, mark, length };
             let mut row = before.concat();
-            if change(&mut rows, case.depth, &mut row, &wanted).is_err() {
+            if change(&mut rows, case.terms(), &mut row, &wanted).is_err() {
                 continue;
             }
             for (old, new) in before.iter().zip(row.chunks(10)) {
@@ -316,7 +322,7 @@ fn files_have_no_marks_and_what_is_read_has_them() {
         let (mut links, mut parents) = (vec![7; 4 * m], vec![7; n]);
         let mut row = vec![7; 10 * n];
         read(&file, &mut links, &mut parents, &mut row).unwrap();
-        assert_eq!(row, plain::table(&rows, WHOLE), "{}", named.label);
+        assert_eq!(row, plain::table(&rows, WHOLE, 0), "{}", named.label);
     }
 }
 
@@ -354,7 +360,7 @@ fn right_marks_in_a_file_are_met_as_22() {
                 Some(both) if text.starts_with("read refused 22 2\n") => both,
                 _ => continue,
             };
-            if check(&rows.lend(), WHOLE).is_err() {
+            if check(&rows.lend(), at(WHOLE)).is_err() {
                 continue;
             }
             for (x, entry) in entries(&rows, WHOLE).iter().enumerate() {

@@ -27,14 +27,14 @@ const TABLE: &str = "0 0 65535 65535 65535 0 0 0 0 0 0
 ";
 
 #[test]
-fn a_case_is_eleven_words_and_its_rows() {
-    let right = hex("0001 0005 0000001c 00000000 0000 ffff 0000 0000 0000
+fn a_case_is_twelve_words_and_its_rows() {
+    let right = hex("0001 0005 0000001c 00000000 0000 ffff 0000 0000 0000 0000
         ffff 0000 0001 0002 0006
         0000 0001 0002 0001  0001 0002 0003 0001  0001 0003 0001 0001
         0000 0002 0006 0001  0000 0003 0007 0001  0002 0003 0004 0001
         0000 0004 0009 0001");
     assert_eq!(case(1, 0, [0; 3]), right);
-    let right = hex("0008 0000 00000003 00000000 0000 0000 0048 0001 0002 a1b2c3");
+    let right = hex("0008 0000 00000003 00000000 0000 0000 0048 0001 0002 0000 a1b2c3");
     assert_eq!(bytes(8, &[0xA1, 0xB2, 0xC3], [0x48, 1, 2]), right);
 }
 
@@ -184,8 +184,8 @@ fn a_way_past_a_failed_link() {
         let right = format!("forward refused {refused}\n{kept}");
         assert_eq!(answers(&case(9, both, abc)), right);
     }
-    let right = hex("0009 0005 0000001c 03fe 0001 0000 ffff 0003 0001 0002");
-    assert_eq!(case(9, 1_022 << 16 | 1, [3, 1, 2])[..22], right);
+    let right = hex("0009 0005 0000001c 03fe 0001 0000 ffff 0003 0001 0002 0000");
+    assert_eq!(case(9, 1_022 << 16 | 1, [3, 1, 2])[..24], right);
     let long = case(9, 5_001 << 16 | 1_022, [4, 1, 0]);
     assert_eq!(answers(&long), "too long\n");
 }
@@ -236,10 +236,10 @@ fn inputs_that_stop_the_probe() {
         assert_eq!(after_one(&sound[..length]), "check ok\n");
     }
     for op in ["0000", "000a", "0064", "006a", "ffff"] {
-        let unknown = [hex(op), hex("ffff"), vec![0; 18], sound.clone()].concat();
+        let unknown = [hex(op), hex("ffff"), vec![0; 20], sound.clone()].concat();
         assert_eq!(after_one(&unknown), "check ok\nunknown\n");
     }
-    let long = [hex("0001 0259"), vec![0; 18], sound.clone()].concat();
+    let long = [hex("0001 0259"), vec![0; 20], sound.clone()].concat();
     assert_eq!(after_one(&long), "check ok\ntoo long\n");
     assert_eq!(after_one(&sound), "check ok\ncheck ok\n");
 }
@@ -254,6 +254,7 @@ fn the_limits_of_a_case() {
         root: 0,
         depth: 0,
         abc,
+        rule: 65_535,
     };
     let most = [65_535; 3];
     assert!(!head(1, 600, 8_400, 40_000, most).too_long());

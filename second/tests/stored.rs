@@ -352,7 +352,7 @@ fn writer_then_reader() {
             (links, parents),
             (sound.links.clone(), sound.parents.clone())
         );
-        table(&sound.lend(), depth, &mut right).unwrap();
+        table(&sound.lend(), at(depth), &mut right).unwrap();
         assert_eq!(row, right);
     }
 }

@@ -1,14 +1,19 @@
-//! The six readings that SCOPE calls wrong, each told apart from the
-//! right one on a network that is named.
+//! The six readings that SCOPE calls wrong, each told apart from the right one on
+//! a network that is named; and wrong readings of the tie rule, each told apart by
+//! cases that are kept.
 
 mod common;
 #[path = "common/plain.rs"]
 mod plain;
 
 use common::*;
+use second::answers::answer;
+use second::cases::kept;
+use second::check::check;
 use second::limits::WHOLE;
 use second::named::small;
 use second::network::Rows;
+use second::probe::{next, Case, Next};
 use second::table::table;
 
 /// The entry of node x that the program gives. The network is one of those
@@ -16,7 +21,7 @@ use second::table::table;
 fn entry(rows: &Rows, depth: u16, x: usize) -> Vec<u64> {
     assert!(small().iter().any(|named| named.rows == *rows));
     let mut row = vec![7; 10 * rows.parents.len()];
-    table(&rows.lend(), depth, &mut row).unwrap();
+    table(&rows.lend(), at(depth), &mut row).unwrap();
     row[10 * x..10 * x + 10].to_vec()
 }
 
@@ -137,7 +142,7 @@ fn property_1_as_printed_on_harbour() {
     assert_eq!(below_as_printed(&rows, 1), [0, 1]);
     assert_eq!(leaving(&rows, 1, &[0, 1]), [1, 2, 3, 4, 6]);
     let net = rows.lend();
-    let tree = second::check::check(&net, WHOLE).unwrap();
+    let tree = check(&net, at(WHOLE)).unwrap();
     assert_eq!(tree.below(1), [1, 2, 3]);
     let links = second::table::crossings(&net, &tree, 1);
     let links: Vec<usize> = links.iter().map(|c| c.link).collect();
@@ -154,7 +159,7 @@ fn extended_upward(rows: &Rows, x: usize, measure: usize) -> Option<(u64, u64)> 
     let links = plain::crossing(rows, x).into_iter();
     let kept = links.filter(|&(e, z, _)| z == x || chosen.contains(&e));
     let priced: Vec<_> = kept.map(|c| (c.0, plain::costs(rows, x, c))).collect();
-    (!priced.is_empty()).then(|| plain::best(&priced, measure))
+    (!priced.is_empty()).then(|| plain::best(&priced, measure, 0))
 }
 
 /// The spur: a path 0-1-2-3 with lengths 20, 1, 10, link 3 from 0 to 3 of
@@ -216,4 +221,181 @@ fn state_2_is_no_bridge_on_harbour() {
     assert_eq!(state_by_candidates(&rows, 0, 1), 3);
     assert_eq!(entry(&rows, 0, 1)[0], 2);
     assert_eq!(entry(&rows, 0, 4)[0], 3);
+}
+
+/// A way to read the tie rule: the right one, and wrong ones.
+#[derive(Clone, Copy, PartialEq, Eq, Debug)]
+enum Reading {
+    Right,
+    /// The rule is not looked at where candidates are compared.
+    NoRule,
+    /// By rule 1 incr decides before the cost does.
+    IncrFirst,
+    /// By rule 1 equal cost is decided by the incr of the other candidate.
+    OtherIncr,
+    /// By rule 1 the highest number is taken where incr ties too.
+    HighestNumber,
+    /// Any number that is not 0 is rule 1.
+    AnyIsRule1,
+    /// 14 before 4.
+    RuleBeforeDepth,
+    /// 14 after 5.
+    RuleAfterEnds,
+}
+
+/// The wrong readings that take other links, or none.
+const WRONG_CHOICES: [Reading; 5] = [
+    Reading::NoRule,
+    Reading::IncrFirst,
+    Reading::OtherIncr,
+    Reading::HighestNumber,
+    Reading::AnyIsRule1,
+];
+
+/// The wrong readings that refuse otherwise.
+const WRONG_REFUSALS: [Reading; 3] = [
+    Reading::AnyIsRule1,
+    Reading::RuleBeforeDepth,
+    Reading::RuleAfterEnds,
+];
+
+/// Whether a candidate is taken rather than another by a reading.
+fn is_better_as(
+    one: plain::Priced,
+    other: plain::Priced,
+    k: usize,
+    rule: u16,
+    how: Reading,
+) -> bool {
+    let ((e, costs), (f, others)) = (one, other);
+    let ties = costs[k] == others[k];
+    match how {
+        _ if rule == 0 => plain::is_better(one, other, k, 0),
+        Reading::NoRule => plain::is_better(one, other, k, 0),
+        Reading::IncrFirst => (costs[1], costs[k], e) < (others[1], others[k], f),
+        Reading::OtherIncr if ties && costs[1] != others[1] => others[1] < costs[1],
+        Reading::HighestNumber if ties && costs[1] == others[1] => f < e,
+        _ => plain::is_better(one, other, k, 1),
+    }
+}
+
+/// The entry of a node as plain numbers, by a reading.
+fn entry_as(rows: &Rows, depth: u16, rule: u16, x: usize, how: Reading) -> [u64; 10] {
+    let mut entry = plain::entry(rows, depth, 0, x);
+    if entry[0] != 1 {
+        return entry;
+    }
+    let priced = plain::priced(rows, depth, x);
+    for k in 0..3 {
+        let mut best = priced[0];
+        for &link in &priced {
+            if is_better_as(link, best, k, rule, how) {
+                best = link;
+            }
+        }
+        entry[1 + k] = best.0 as u64;
+        entry[4 + k] = best.1[k];
+        entry[7 + k] = plain::lower(rows, x, best.0);
+    }
+    entry
+}
+
+/// The refusal of a case by a reading, by what a check refuses whatever the rule.
+fn refusal_as(case: &Case, how: Reading) -> Option<(u16, usize)> {
+    let by_0 = told(check(&case.rows().lend(), at(case.depth)).map(|_| ())).err();
+    let no_rule = case.rule > 1 && how != Reading::AnyIsRule1;
+    let before = match how {
+        Reading::RuleBeforeDepth => 3,
+        Reading::RuleAfterEnds => 5,
+        _ => 4,
+    };
+    match by_0 {
+        Some((number, _)) if number <= before => by_0,
+        _ if no_rule => Some((14, 0)),
+        _ => by_0,
+    }
+}
+
+/// What is printed for a table, or for one entry of a node, by a reading. The room
+/// is enough.
+fn printed_as(case: &Case, how: Reading) -> String {
+    let one = case.op == 104;
+    let (call, rest) = if one {
+        ("entry", "")
+    } else {
+        ("table", "rest kept\n")
+    };
+    if let Some((number, place)) = refusal_as(case, how) {
+        return format!("{call} refused {number} {place}\n{rest}");
+    }
+    let nodes = match one {
+        true => usize::from(case.abc[0])..usize::from(case.abc[0]) + 1,
+        false => 0..case.parents.len(),
+    };
+    let mut text = format!("{call} ok\n");
+    for x in nodes {
+        let entry = entry_as(&case.rows(), case.depth, case.rule.min(1), x, how);
+        let words: Vec<String> = entry.iter().map(u64::to_string).collect();
+        text += &format!("{x} {}\n", words.join(" "));
+    }
+    text + rest
+}
+
+/// The kept cases of some ops, but for those of large networks.
+fn kept_of(ops: &[u16]) -> Vec<Case> {
+    let (bytes, mut cases) = (kept(), Vec::new());
+    let mut input = &bytes[..];
+    while let Next::Case(case) = next(&mut input) {
+        cases.push(case);
+    }
+    assert!(input.is_empty());
+    cases.retain(|case| ops.contains(&case.op) && case.parents.len() < 40);
+    cases
+}
+
+/// The kept tables with room, and the kept entries of nodes, by the right reading
+/// and by wrong ones.
+#[test]
+fn the_kept_entries_tell_wrong_readings_of_the_rule_apart() {
+    for op in [2, 104] {
+        let mut cases = kept_of(&[op]);
+        cases.retain(|case| match op {
+            2 => case.room >= 10 * case.parents.len(),
+            _ => usize::from(case.abc[0]) < case.parents.len(),
+        });
+        assert!(cases.len() > 60, "{op}: {}", cases.len());
+        let right: Vec<String> = cases.iter().map(answer).collect();
+        for (case, right) in cases.iter().zip(&right) {
+            assert_eq!(printed_as(case, Reading::Right), *right, "{case:?}");
+        }
+        for wrong in WRONG_CHOICES {
+            let mut pairs = cases.iter().zip(&right);
+            let apart = |(case, right): (&Case, &String)| printed_as(case, wrong) != *right;
+            assert!(pairs.any(apart), "{op}: {wrong:?}");
+        }
+    }
+}
+
+/// The refusal that must be printed for a case.
+fn refused(case: &Case) -> Option<(u16, usize)> {
+    let text = answer(case);
+    let words: Vec<&str> = text.split_whitespace().collect();
+    (words[1] == "refused").then(|| (words[2].parse().unwrap(), words[3].parse().unwrap()))
+}
+
+/// The kept cases of every op with a search that a check refuses, by the right
+/// order and by wrong ones.
+#[test]
+fn the_kept_refusals_tell_wrong_readings_of_the_rule_apart() {
+    for op in [1, 2, 3, 4, 5, 9, 104, 105] {
+        let mut cases = kept_of(&[op]);
+        cases.retain(|case| refusal_as(case, Reading::Right).is_some());
+        for case in &cases {
+            assert_eq!(refusal_as(case, Reading::Right), refused(case), "{case:?}");
+        }
+        for wrong in WRONG_REFUSALS {
+            let apart = |case: &Case| refusal_as(case, wrong) != refused(case);
+            assert!(cases.iter().any(apart), "{op}: {wrong:?}");
+        }
+    }
 }

@@ -5,9 +5,10 @@ use mathlib.Core.Bool.{false}
 use mathlib.Core.List.{List}
 use Prim.Native.Nat.{ℕ, _<_}
 use lib.ListN.{getD}
-use Rattle.edition.specs.declared.Verdict.the-variants.{Taken}
+use Rattle.edition.specs.declared.Verdict.{Verdict}
+use Rattle.edition.specs.declared.Verdict.the-variants.{Taken, Refused}
 use Rattle.edition.specs.declared.Why.the-variants.{NoRoom}
-use Rattle.edition.specs.Limits.{memoryLimits}
+use Rattle.edition.specs.Limits.{memoryLimits, lowestNumber}
 use Rattle.edition.specs.Stored.{editionLimits}
 use Rattle.edition.proofs.Within.{edition-within}
 use Rattle.rows.proofs.Refusing.{head-taken, rest-taken, both-taken, none-left, if-taken}
@@ -16,10 +17,33 @@ use Rattle.network.specs.Records.{sizeVerdict}
 use Rattle.network.proofs.Sizes.{sizes-grow}
 use Rattle.sound.specs.Sound.{recordVerdict, netVerdict}
 use Rattle.archive.specs.Writer.{fileOf}
-use Rattle.archive.specs.Reader.{nodesRead, linksRead, searchRead, netRead, Rows, tooShort, headVerdict, restVerdict, readVerdict}
+use Rattle.archive.specs.declared.Header.{Header}
+use Rattle.archive.specs.declared.ReadAnswer.{ReadAnswer}
+use Rattle.archive.specs.declared.ReadAnswer.the-variants.{Is, Not}
+use Rattle.archive.specs.Reader.{nodesRead, linksRead, searchRead, headRead, netRead, Rows, tooShort, headVerdict, restVerdict, readVerdict}
+use Rattle.archive.specs.Reader.{readIf, readAnswer}
 use Rattle.archive.proofs.Reading.{nodes-read, links-read}
 use Rattle.archive.proofs.AcceptedWritten.{accepted-is-written}
 use Rattle.archive.proofs.WrittenAccepted.{all-accepted}
+
+-- every file means tie rule 0: the network read has it, and what the reader answers
+module _ (file : List ℕ) where
+  pub rule-read : netRead file .search .rule ≡ lowestNumber
+  unfolding netRead netOf searchRead
+  rule-read = refl
+
+  -- the rule of an answer, and 0 of a refusal
+  ruleIn : ReadAnswer → ℕ
+  ruleIn (Is head) = head .search .rule
+  ruleIn (Not r) = lowestNumber
+
+  pub rule-answered : (rows : Rows) (head : Header) → readAnswer file rows ≡ Is head → head .search .rule ≡ lowestNumber
+  unfolding readAnswer headRead searchRead ruleIn
+  rule-answered rows head h = sym (ap ruleIn h) ∙ go (readVerdict file rows)
+    where
+      go : (v : Verdict) → ruleIn (readIf v (headRead file)) ≡ lowestNumber
+      go Taken = refl
+      go (Refused r) = refl
 
 -- the network read is sound at edition 1's limits, the file is the one file of that network and depth, and the rows have room
 pub record Accepted (file : List ℕ) (rows : Rows) : Type 0 where
@@ -61,4 +85,4 @@ module _ (file : List ℕ) (rows : Rows) where
       both-taken _ _ (sizes-grow editionLimits memoryLimits edition-within (g .nodes) (g .links) (g .search) (a .sized))
       (both-taken _ _ (a .recorded) none-left) in
       subst (λ (f : List ℕ). readVerdict f rows ≡ Taken) (sym (a .one))
-      (all-accepted g ok (a .sized) (ap netRead (sym (a .one))) rows (a .room))
+      (all-accepted g ok (a .sized) (rule-read file) (ap netRead (sym (a .one))) rows (a .room))

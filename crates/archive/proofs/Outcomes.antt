@@ -3,24 +3,25 @@ use Prim.Native.Nat.{ℕ}
 use mathlib.Core.List.{List}
 use Rattle.archive.specs.Reader.{Rows, readVerdict, readAnswer, rowsRead}
 use Rattle.archive.specs.Writer.{writeVerdict, writeAnswer, writtenRow}
-use Rattle.edition.specs.declared.Search.{Search}
+use Rattle.edition.specs.Stored.{byNumber}
+use Rattle.edition.specs.declared.Aim.{Aim}
 use Rattle.network.specs.Network.{netOf}
 use Rattle.edition.proofs.Only.{One, one}
 
 -- `archive::check_write`
 pub one-check-write :
-    (links parents : List ℕ) (search : Search) (file : List ℕ) →
-    let g = netOf links parents search in
+    (links parents : List ℕ) (aim : Aim) (file : List ℕ) →
+    let g = netOf links parents (byNumber aim) in
     One (writeVerdict g file)
-one-check-write links parents search file = one _
+one-check-write links parents aim file = one _
 
 -- `archive::write`
 pub one-write :
-    (links parents : List ℕ) (search : Search) (file : List ℕ) →
-    let g = netOf links parents search in
+    (links parents : List ℕ) (aim : Aim) (file : List ℕ) →
+    let g = netOf links parents (byNumber aim) in
     One (writeAnswer g file)
     × One (writtenRow g file)
-one-write links parents search file = (one _, one _)
+one-write links parents aim file = (one _, one _)
 
 -- `archive::check_read`
 pub one-check-read :

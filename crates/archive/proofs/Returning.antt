@@ -11,9 +11,10 @@ use lib.Seq.{ext-getD}
 use borrow.Author.Tests.{eqb-true, not-false}
 use Rattle.edition.specs.declared.Entry.{Entry}
 use Rattle.edition.specs.declared.Search.{Search}
+use Rattle.edition.specs.declared.Aim.{Aim}
 use Rattle.edition.specs.declared.Verdict.the-variants.{Taken}
-use Rattle.edition.specs.Limits.{noLink, wholeSearch, longest}
-use Rattle.edition.specs.Stored.{headerBytes, linkBytes, entryBytes}
+use Rattle.edition.specs.Limits.{noLink, wholeSearch, lowestNumber, longest}
+use Rattle.edition.specs.Stored.{byNumber, headerBytes, linkBytes, entryBytes}
 use Rattle.rows.specs.Count.{rowsTo}
 use Rattle.rows.proofs.Records.{rows-length}
 use Rattle.network.specs.Network.{Net, linksIn, linkIn, netOf}
@@ -86,13 +87,13 @@ module _ (g : Net) (ok : netVerdict g ≡ Taken) where
       ∙ second-of-four (g .nodes) (g .links) (g .search .root) (g .search .depth)
       (omega (arith, links-few g (sound g ok)))
 
-  -- the root and the depth that are read are those that were written
-  pub depth-written : searchRead (fileOf g) ≡ g .search
+  -- the root and the depth that are read are those that were written, and the rule is 0
+  pub depth-written : g .search .rule ≡ lowestNumber → searchRead (fileOf g) ≡ g .search
   unfolding searchRead headerRecord
-  depth-written =
+  depth-written low =
       let root-is = in-header 4 (omega arith) ∙ third-of-four (g .nodes) (g .links) (g .search .root) (g .search .depth) root-small in
       let depth-is = in-header 6 (omega arith) ∙ fourth-of-four (g .nodes) (g .links) (g .search .root) (g .search .depth) depth-small in
-      λ i. record { root = root-is i; depth = depth-is i }
+      λ i. record { root = root-is i; depth = depth-is i; rule = sym low i }
 
   parent-small : (u : ℕ) → u < g .nodes → g .parent u ≤ wordMost
   unfolding badParent
@@ -135,9 +136,9 @@ module _ (g : Net) (ok : netVerdict g ≡ Taken) where
       }
 
 -- a sound network of lent rows, whose numbers have 16 bits
-module _ (links parents : List ℕ) (search : Search) (ok : netVerdict (netOf links parents search) ≡ Taken) (held : (i : ℕ) → getD links i 0 ≤ longest) where
+module _ (links parents : List ℕ) (aim : Aim) (ok : netVerdict (netOf links parents (byNumber aim)) ≡ Taken) (held : (i : ℕ) → getD links i 0 ≤ longest) where
   abbrev g : Net
-  g = netOf links parents search
+  g = netOf links parents (byNumber aim)
 
   links-counted : linksRead (fileOf g) ≡ linksIn links
   unfolding netOf
@@ -173,13 +174,13 @@ module _ (links parents : List ℕ) (search : Search) (ok : netVerdict (netOf li
       ∙ (row-get f 1 (λ x. refl) (nodesRead (fileOf g)) j 0 noLink (omega (arith, l, size)) (omega arith)
       ∙ parent-written g ok j (omega (arith, l, size, nodes-counted))))
 
-  search-back : searchRead (fileOf g) ≡ search
+  search-back : searchRead (fileOf g) ≡ byNumber aim
   unfolding netOf
-  search-back = depth-written g ok
+  search-back = depth-written g ok refl
 
   -- the network read is the network that was written
   pub network-back : netRead (fileOf g) ≡ g
   unfolding netRead
   network-back =
       ap₂ (λ (p : List ℕ) (s : Search). netOf (linksHeld (fileOf g)) p s) parents-back search-back
-      ∙ same-links (linksHeld (fileOf g)) links row-count (λ e l. links-back e (omega (arith, l, row-count))) parents search
+      ∙ same-links (linksHeld (fileOf g)) links row-count (λ e l. links-back e (omega (arith, l, row-count))) parents (byNumber aim)

@@ -7,9 +7,10 @@ use native.Mathlib.Omega.{arith}
 use lib.Dec.{ltb}
 use lib.ListN.{length, drop}
 use Rattle.edition.specs.declared.Search.{Search}
+use Rattle.edition.specs.declared.Aim.{Aim}
 use Rattle.edition.specs.declared.Verdict.{Verdict}
 use Rattle.edition.specs.declared.Verdict.the-variants.{Taken, Refused}
-use Rattle.edition.specs.Stored.{storedNodes, storedLinks, editionLimits, blockBytes, blockLimit}
+use Rattle.edition.specs.Stored.{storedNodes, storedLinks, editionLimits, byNumber, blockBytes, blockLimit}
 use Rattle.rows.specs.Count.{rowsTo}
 use Rattle.network.specs.Network.{Net, linksIn, netOf}
 use Rattle.network.specs.Records.{sizeVerdict}
@@ -26,6 +27,7 @@ use Rattle.archive.proofs.FileContents.{block-size}
 use Rattle.archive.specs.Parts.{blocksFor, blockCount}
 use Rattle.archive.specs.Work.{Tabled}
 use Rattle.archive.specs.Writer.{blockOf, fileOf, fileLength, writeVerdict, writeAnswer, writtenRow}
+use Rattle.archive.specs.declared.WriteAnswer.{WriteAnswer}
 use Rattle.archive.specs.declared.WriteAnswer.the-variants.{Is, Not}
 use Rattle.edition.specs.declared.Refusal.{Refusal}
 use Rattle.edition.specs.declared.Why.the-variants.{NoRoom}
@@ -174,3 +176,21 @@ module _ (links parents : List ℕ) (search : Search) where
         tabled-written h after p =
             let long : ltb (length file) (fileLength g) ≡ false = le-ltb (length file) (fileLength g) (tabled-room h) in
             (rw (room-decides, long) (ap Is length-is), rw (room-decides, long) p)
+
+-- the search that the code works by is the one that root and depth mean
+module _ (links parents : List ℕ) {search : Search} (aim : Aim) (meant : search ≡ byNumber aim) (file : List ℕ) where
+  pub verdict-meant : {v : Verdict} → v ≡ writeVerdict (netOf links parents search) file → v ≡ writeVerdict (netOf links parents (byNumber aim)) file
+  verdict-meant {v} h = subst (λ (s : Search). v ≡ writeVerdict (netOf links parents s) file) meant h
+
+  pub answer-meant :
+      {r : WriteAnswer} {after : List ℕ}
+      → (r ≡ writeAnswer (netOf links parents search) file)
+      × (after ≡ writtenRow (netOf links parents search) file)
+      → (r ≡ writeAnswer (netOf links parents (byNumber aim)) file)
+      × (after ≡ writtenRow (netOf links parents (byNumber aim)) file)
+  answer-meant {r} {after} h =
+      subst
+      (λ (s : Search).
+      (r ≡ writeAnswer (netOf links parents s) file)
+      × (after ≡ writtenRow (netOf links parents s) file))
+      meant h

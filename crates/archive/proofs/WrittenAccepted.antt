@@ -1,5 +1,5 @@
 -- What the writer makes of a sound network within edition 1's limits is taken, wherever the lent rows have room. Assumes nothing.
-use mathlib.Core.Path.{_≡_, ap, ap₂, _∙_}
+use mathlib.Core.Path.{_≡_, refl, ap, ap₂, _∙_}
 use mathlib.Core.Bool.{false, not}
 use mathlib.Core.List.{List, [], _∷_}
 use Prim.Native.Nat.{ℕ, _+_, _*_, _-_, _%_, _<_, _≤_, min}
@@ -7,12 +7,12 @@ use native.Mathlib.Omega.{arith}
 use lib.Dec.{eqb}
 use lib.ListN.{length, getD, take, drop}
 use borrow.Author.Tests.{eq-eqb, ne-eqb}
-use Rattle.edition.specs.declared.Search.{Search}
+use Rattle.edition.specs.declared.Aim.{Aim}
 use Rattle.edition.specs.declared.Verdict.{Verdict}
 use Rattle.edition.specs.declared.Verdict.the-variants.{Taken}
 use Rattle.edition.specs.declared.Why.the-variants.{BadLength, NoRoom, BadEntry}
-use Rattle.edition.specs.Limits.{longest}
-use Rattle.edition.specs.Stored.{editionLimits, blockBytes, tableKind, entryBytes, entriesABlock}
+use Rattle.edition.specs.Limits.{lowestNumber, longest}
+use Rattle.edition.specs.Stored.{editionLimits, byNumber, blockBytes, tableKind, entryBytes, entriesABlock}
 use Rattle.rows.specs.Count.{rowsTo}
 use Rattle.rows.specs.First.{refuseIf, refuseAt, firstly, verdictTo}
 use Rattle.rows.specs.Lists.{same}
@@ -75,7 +75,7 @@ module _ (g : Net) where
       let size = file-size g in
       rw (ne-eqb (length (fileOf g)) 0 (λ z. omega (arith, z, size)), eq-eqb (length (fileOf g) % blockBytes) 0 (omega (arith, size)))
 
-  module _ (ok : netVerdict g ≡ Taken) (fits : sizeVerdict editionLimits n m (g .search) ≡ Taken) where
+  module _ (ok : netVerdict g ≡ Taken) (fits : sizeVerdict editionLimits n m (g .search) ≡ Taken) (low : g .search .rule ≡ lowestNumber) where
     head-accepted : headVerdict (fileOf g) ≡ Taken
     unfolding headVerdict
     head-accepted =
@@ -83,7 +83,7 @@ module _ (g : Net) where
         (both-taken _ _ header-taken
         (both-taken _ _
         (ap₂ (λ (a b : ℕ). sizeVerdict editionLimits a b (searchRead (fileOf g))) (nodes-written g ok) (links-written g ok)
-        ∙ (ap (sizeVerdict editionLimits n m) (depth-written g ok) ∙ fits))
+        ∙ (ap (sizeVerdict editionLimits n m) (depth-written g ok low) ∙ fits))
         none-left))
 
     module _ (back : netRead (fileOf g) ≡ g) (rows : Rows) (room : tooShort n m rows ≡ false) where
@@ -119,11 +119,11 @@ module _ (g : Net) where
 
 -- the file of a sound network within edition 1's limits, of rows whose numbers have 16 bits, is taken
 pub written-accepted :
-    (links parents : List ℕ) (search : Search)
-    → netVerdict (netOf links parents search) ≡ Taken
-    → sizeVerdict editionLimits (length parents) (linksIn links) search ≡ Taken → ((i : ℕ) → getD links i 0 ≤ longest)
+    (links parents : List ℕ) (aim : Aim)
+    → netVerdict (netOf links parents (byNumber aim)) ≡ Taken
+    → sizeVerdict editionLimits (length parents) (linksIn links) (byNumber aim) ≡ Taken → ((i : ℕ) → getD links i 0 ≤ longest)
     → (rows : Rows) → tooShort (length parents) (linksIn links) rows ≡ false
-    → readVerdict (fileOf (netOf links parents search)) rows ≡ Taken
+    → readVerdict (fileOf (netOf links parents (byNumber aim))) rows ≡ Taken
 unfolding netOf
-written-accepted links parents search ok fits held rows room =
-    all-accepted (netOf links parents search) ok fits (network-back links parents search ok held) rows room
+written-accepted links parents aim ok fits held rows room =
+    all-accepted (netOf links parents (byNumber aim)) ok fits refl (network-back links parents aim ok held) rows room

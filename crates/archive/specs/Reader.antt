@@ -8,7 +8,7 @@ use Rattle.edition.specs.declared.Search.{Search}
 use Rattle.edition.specs.declared.Verdict.{Verdict}
 use Rattle.edition.specs.declared.Verdict.the-variants.{Taken, Refused}
 use Rattle.edition.specs.declared.Why.the-variants.{BadLength, NoRoom, BadEntry}
-use Rattle.edition.specs.Stored.{editionLimits, blockBytes, entryBytes}
+use Rattle.edition.specs.Stored.{editionLimits, byNumber, blockBytes, entryBytes}
 use Rattle.edition.specs.Refusals.{ifTaken}
 use Rattle.rows.specs.Count.{rowsTo}
 use Rattle.rows.specs.First.{refuseIf, refuseAt, firstly, verdictTo}
@@ -36,9 +36,9 @@ nodesRead file = numberIn file 8 2
 unfoldable pub linksRead : List ℕ → ℕ
 linksRead file = numberIn file 10 2
 
--- Root and depth, as the header says them.
+-- Root and depth, as the header says them, and tie rule 0, which every file means.
 unfoldable pub searchRead : List ℕ → Search
-searchRead file = record { root = numberIn file 12 2; depth = numberIn file 14 2 }
+searchRead file = byNumber (record { root = numberIn file 12 2; depth = numberIn file 14 2 })
 
 -- All that the header says.
 unfoldable pub headRead : List ℕ → Header
@@ -125,7 +125,7 @@ abbrev pub readIf : Verdict → Header → ReadAnswer
 readIf Taken head = Is head
 readIf (Refused r) head = Not r
 
--- What the reader answers: n, m, root and depth, or the refusal.
+-- What the reader answers: n, m, root, depth and tie rule 0, or the refusal.
 unfoldable pub readAnswer : List ℕ → Rows → ReadAnswer
 readAnswer file rows = readIf (readVerdict file rows) (headRead file)
 

@@ -1,4 +1,5 @@
--- The one file of a network and depth, and what the writer answers. Assumes nothing.
+-- The one file of a network and depth, and what the writer answers. A file has no place for a tie rule: the network is one under rule 0,
+-- since writer and reader name no other (`byNumber`). Assumes nothing.
 use mathlib.Core.Bool.{cond}
 use mathlib.Core.List.{List, [], _∷_, _++_}
 use Prim.Native.Nat.{ℕ, _+_, _*_}

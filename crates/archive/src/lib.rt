@@ -4,7 +4,7 @@ ghost use Prim.Native.Nat.{_+_, _*_, _-_, _<_, _≤_, min};
 ghost use mathlib.Core.List.{_++_};
 ghost use lib.ListN.{length, take, drop, replicate};
 ghost use Rattle.edition.specs.Limits.{nodeLimit, linkLimit, entryRoom};
-ghost use Rattle.edition.specs.Stored.{blockBytes, entryBytes};
+ghost use Rattle.edition.specs.Stored.{byNumber, blockBytes, entryBytes};
 ghost use Rattle.entries.specs.Row.{entriesIn, pastEntries};
 ghost use Rattle.network.specs.Network.{netOf, linksIn, pastLinks};
 ghost use Rattle.numbers.specs.Bytes.{wordMost};
@@ -20,6 +20,7 @@ ghost use Rattle.table.specs.Table.{table};
 ghost use Rattle.archive.specs.Writer.{blockOf, fileOf, fileLength, writeVerdict, writeAnswer, writtenRow};
 ghost use Rattle.edition.specs.declared.Verdict.the-variants.{Taken};
 ghost use Rattle.archive.specs.Parts.{blocksFor, blockCount, partOf, partAt, linkPlace, entryPlace};
+use edition::Aim;
 use edition::Edition;
 use edition::Entry;
 use edition::Found;
@@ -38,7 +39,7 @@ pub struct Part {
     pub used: usize,
 }
 
-// What a file's header says: how many nodes and links there are, the root and the depth.
+// What a file's header says: how many nodes and links there are, the root and the depth, which mean a search by tie rule 0.
 pub struct Header {
     pub nodes: usize,
     pub links: usize,
@@ -258,12 +259,12 @@ fn write_blocks(links: &[u16], parents: &[u16], search: Search, entries: &[u64],
 }
 
 // Whether a file can be written: refusals 1 to 9, then 10 where fewer bytes are lent than the file needs.
-pub fn check_write(links: &[u16], parents: &[u16], search: Search, file: &[u8]) -> Verdict
+pub fn check_write(links: &[u16], parents: &[u16], aim: Aim, file: &[u8]) -> Verdict
     ensures { λ r.
-        let g = netOf (now (links .entry)) (now (parents .entry)) search in
+        let g = netOf (now (links .entry)) (now (parents .entry)) (byNumber aim) in
         ⌜ r ≡ writeVerdict g (now (file .entry)) ⌝ }
 {
-    let said = sound::check_network(links, parents, search);
+    let said = sound::check_network(links, parents, aim.by_number());
     let Checked::Sound(sizes) = said else {
         return sound::handed_up(said);
     };
@@ -296,13 +297,14 @@ fn write_tabled(
     WriteAnswer::Is(length)
 }
 
-// The file of a network and depth into lent bytes, and its length. Nothing is written on a refusal, nor past the file.
-pub fn write(links: &[u16], parents: &[u16], search: Search, file: &mut [u8]) -> WriteAnswer
+// The file of a network and depth, by tie rule 0, into lent bytes, and its length. Nothing is written on a refusal, nor past the file.
+pub fn write(links: &[u16], parents: &[u16], aim: Aim, file: &mut [u8]) -> WriteAnswer
     ensures { λ r.
-        let g = netOf (now (links .entry)) (now (parents .entry)) search in
+        let g = netOf (now (links .entry)) (now (parents .entry)) (byNumber aim) in
         ⌜ (r ≡ writeAnswer g (now (file .entry)))
         × (now (file .exit) ≡ writtenRow g (now (file .entry))) ⌝ }
 {
+    let search = aim.by_number();
     let mut entries = [0u64; Memory::ENTRY_ROW];
     let said = table::table(links, parents, search, &mut entries);
     match said {
@@ -353,14 +355,14 @@ fn check_blocks(file: &[u8], n: usize, m: usize) -> Verdict
 fn header_of(file: &[u8]) -> Header
     ensures { λ r. ⌜ r ≡ headRead (now (file .entry)) ⌝ }
 {
-    let search = Search {
+    let aim = Aim {
         root: numbers::two_at(file, 12),
         depth: numbers::two_at(file, 14),
     };
     Header {
         nodes: numbers::two_at(file, 8) as usize,
         links: numbers::two_at(file, 10) as usize,
-        search,
+        search: aim.by_number(),
     }
 }
 

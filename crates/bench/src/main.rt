@@ -1,7 +1,7 @@
 // For measuring: does one of four jobs as many times as asked on the network on standard input, and prints one number that what
 // it leaves goes into.
 //
-// The input is 16-bit words, the high byte first: n, m, root, depth and times; n parents; m records of links; the job: 0 the table,
+// The input is 16-bit words, the high byte first: n, m, root, depth, times and tie rule; n parents; m records of links; the job: 0 the table,
 // 1 the change of a link (of each link outside the tree in turn, withdrawn and then in service again), 2 the write of the file,
 // 3 its read. One that is not a whole network within the limits, or that is refused, prints `refused`.
 use archive::ReadAnswer;
@@ -128,7 +128,7 @@ fn change_once(
 
 // The length of the file, 0 where it is refused.
 fn write_once(links: &[u16], parents: &[u16], search: Search, file: &mut [u8]) -> usize {
-    match archive::write(links, parents, search, file) {
+    match archive::write(links, parents, search.aim(), file) {
         WriteAnswer::Is(size) => size,
         WriteAnswer::Not(_) => 0,
     }

@@ -9,13 +9,14 @@ use Rattle.edition.specs.declared.Measure.{Measure}
 use Rattle.edition.specs.declared.Measure.the-variants.{Sum, Incr, Max}
 use Rattle.edition.specs.Entries.{rootState, swapState, noneState, bridgeState, blank}
 use Rattle.rows.specs.Count.{someTo}
+use Rattle.rows.specs.Lists.{sooner}
 use Rattle.rows.specs.Work.{bestTo}
 use Rattle.rows.proofs.Best.{best-cong, Stands, nobody, somebody, stands}
 use Rattle.rows.proofs.Counting.{some-cong}
 use Rattle.rows.proofs.Tests.{clash}
 use Rattle.network.specs.Network.{Net}
 use Rattle.tree.specs.Tree.{treeOf}
-use Rattle.swap.specs.Swap.{innerEnd, lowerMark, crosses, within, candidate, cost, costOf, before, best}
+use Rattle.swap.specs.Swap.{innerEnd, lowerMark, crosses, within, candidate, cost, costOf, keyBy, key, before, best}
 use Rattle.swap.specs.Entry.{crossed, hasCandidate, state, priced, swapOf, entry}
 use Rattle.swap.proofs.Choosing.{best-by}
 
@@ -63,8 +64,11 @@ module _ (x : ℕ) (g h : Net) (a : SameFor x g h) where
       ]
 
   before-same : (s : Measure) (e f : ℕ) → candidate h x e ≡ true → candidate h x f ≡ true → before s h x e f ≡ before s g x e f
-  unfolding before
-  before-same s e f c d = rw (cost-same s e c, cost-same s f d)
+  unfolding before key
+  before-same s e f c d =
+      λ i.
+      sooner (keyBy (a .search i .rule) (cost-same s e c i) (cost-same Incr e c i) e)
+      (keyBy (a .search i .rule) (cost-same s f d i) (cost-same Incr f d i) f)
 
   best-same : (s : Measure) → best s h x ≡ best s g x
   best-same s =

@@ -28,7 +28,7 @@ use Rattle.sound.specs.Sound.{netVerdict}
 use Rattle.sound.proofs.Sounds.{sound, taken}
 use Rattle.swap.specs.Entry.{entry}
 use Rattle.table.specs.Table.{tableVerdict}
-use Rattle.table.proofs.Numbers.{oneToTen, table-gives}
+use Rattle.table.proofs.Numbers.{ofTable, table-gives}
 use Rattle.table.proofs.Whole.{table-sound, table-room}
 use Rattle.change.specs.Change.{breaks, changeVerdict, changedLink, setLink, mended, Lent, changed}
 use Rattle.change.proofs.Setting.{link-other, link-set}
@@ -156,7 +156,7 @@ module _ (links parents : List ℕ) (search : Search) (entries : List ℕ) (c : 
       → (before13 ≡ Taken) × (netVerdict changedNet ≡ refused NotShort (c .link))
   unfolding changeVerdict numberOf has
   thirteen-nine r h thirteen =
-      let v10 = passed oneToTen _ _ r (table-gives net entries) (rw thirteen) h in
+      let v10 = passed ofTable _ _ r (table-gives net entries) (rw thirteen) h in
       let v11 = passed (11 ∷ []) _ _ r (if-gives (11 ∷ []) _ LinkMissing 0 refl) (rw thirteen) (v10 .1) in
       let v6 = passed (6 ∷ []) _ _ r (if-gives (6 ∷ []) _ BadMark (c .link) refl) (rw thirteen) (v11 .1) in
       let v12 = passed (12 ∷ []) _ _ r (if-gives (12 ∷ []) _ TreeLink (c .link) refl) (rw thirteen) (v6 .1) in

@@ -153,6 +153,7 @@ module _ (links parents : List ℕ) (search : Search) where
           links-ok = rw (count-same links c) (a .before .sized .links-ok);
           root-ok = a .before .sized .root-ok;
           depth-ok = a .before .sized .depth-ok;
+          rule-ok = a .before .sized .rule-ok;
         }
 
     -- where the change would not break shortness, the network that it leaves is sound

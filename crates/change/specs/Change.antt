@@ -27,7 +27,7 @@ breaks g c =
     let l = g .link (c .link) in
     eqb (c .mark) served && not (short (treeOf g) (l .first) (l .second) (c .length))
 
--- 1 to 10, 11, 6 with the changed link as its place, 12, 13.
+-- 1 to 4, 14, 5 to 10, 11, 6 with the changed link as its place, 12, 13.
 unfoldable pub changeVerdict : Net → List ℕ → Change → Verdict
 changeVerdict g entries c =
     firstly

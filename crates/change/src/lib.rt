@@ -73,7 +73,7 @@ fn judge(
     rows::refuse_if(breaks_short(links, survey, change), Why::BreaksShort, e)
 }
 
-// Whether a change is taken: 1 to 10, 11, 6 with the changed link as its place, 12, 13. Nothing is written.
+// Whether a change is taken: 1 to 4, 14, 5 to 10, 11, 6 with the changed link as its place, 12, 13. Nothing is written.
 pub fn check_change(
     links: &[u16],
     parents: &[u16],

@@ -2,7 +2,7 @@
 use Prim.Native.Nat.{ℕ}
 use mathlib.Core.List.{List}
 use Rattle.change.specs.Change.{changeVerdict, Lent, changed}
-use Rattle.doeragyeol.specs.Calls.{lentNet, lentRows, checkSaid, sizesRow, mapSaid, wordsRow, openRow, writeSaid, fileRow, lengthRow}
+use Rattle.doeragyeol.specs.Calls.{lentNet, filedNet, lentRows, checkSaid, sizesRow, mapSaid, wordsRow, openRow, writeSaid, fileRow, lengthRow}
 use Rattle.doeragyeol.specs.Calls.{readSaid, rowsLeft, headerRow, forwardSaid, ordinaryLeft, detourLeft, wayRow}
 use Rattle.doeragyeol.specs.Calls.{treeNet, distanceSaid, apartRow}
 use Rattle.doeragyeol.specs.Word.{version, wordOf}
@@ -13,53 +13,53 @@ use Rattle.table.specs.Table.{tableVerdict, tableRow}
 use lib.ListN.{length}
 use Rattle.edition.proofs.Only.{One, one}
 
--- `doeragyeol::doeragyeol_version_5`
-pub one-doeragyeol-version-5 : One (version)
-one-doeragyeol-version-5 = one _
+-- `doeragyeol::doeragyeol_version_6`
+pub one-doeragyeol-version-6 : One (version)
+one-doeragyeol-version-6 = one _
 
 -- `doeragyeol::doeragyeol_check`
 pub one-doeragyeol-check :
-    (links parents : List ℕ) (root depth : ℕ) (sizes : List ℕ) →
-    let g = lentNet links parents root depth in
+    (links parents : List ℕ) (root depth rule : ℕ) (sizes : List ℕ) →
+    let g = lentNet links parents root depth rule in
     One (wordOf (checkSaid g sizes))
     × One (sizesRow g sizes)
-one-doeragyeol-check links parents root depth sizes = (one _, one _)
+one-doeragyeol-check links parents root depth rule sizes = (one _, one _)
 
 -- `doeragyeol::doeragyeol_table`
 pub one-doeragyeol-table :
-    (links parents : List ℕ) (root depth : ℕ) (entries : List ℕ) →
-    let g = lentNet links parents root depth in
+    (links parents : List ℕ) (root depth rule : ℕ) (entries : List ℕ) →
+    let g = lentNet links parents root depth rule in
     One (wordOf (tableVerdict g entries))
     × One (tableRow g entries)
-one-doeragyeol-table links parents root depth entries = (one _, one _)
+one-doeragyeol-table links parents root depth rule entries = (one _, one _)
 
 -- `doeragyeol::doeragyeol_map`
 pub one-doeragyeol-map :
-    (links parents : List ℕ) (root depth : ℕ) (words told : List ℕ) →
-    let g = lentNet links parents root depth in
+    (links parents : List ℕ) (root depth rule : ℕ) (words told : List ℕ) →
+    let g = lentNet links parents root depth rule in
     let words′ = words in
     let told′ = told in
     One (wordOf (mapSaid g words′ told′))
     × One (wordsRow g words′ told′)
     × One (openRow g words′ told′)
-one-doeragyeol-map links parents root depth words told = (one _, one _, one _)
+one-doeragyeol-map links parents root depth rule words told = (one _, one _, one _)
 
 -- `doeragyeol::doeragyeol_change`
 pub one-doeragyeol-change :
-    (links parents : List ℕ) (root depth : ℕ) (entries : List ℕ) (link mark length : ℕ) →
+    (links parents : List ℕ) (root depth rule : ℕ) (entries : List ℕ) (link mark length : ℕ) →
     let lent : Lent = record { links = links; entries = entries } in
-    let g = lentNet links parents root depth in
+    let g = lentNet links parents root depth rule in
     let change : Change = record { link = link; mark = mark; length = length } in
-    let after = changed parents (record { root = root; depth = depth }) change lent in
+    let after = changed parents (record { root = root; depth = depth; rule = rule }) change lent in
     One (wordOf (changeVerdict g entries change))
     × One (after .links)
     × One (after .entries)
-one-doeragyeol-change links parents root depth entries link mark length = (one _, one _, one _)
+one-doeragyeol-change links parents root depth rule entries link mark length = (one _, one _, one _)
 
 -- `doeragyeol::doeragyeol_write`
 pub one-doeragyeol-write :
     (links parents : List ℕ) (root depth : ℕ) (file size : List ℕ) →
-    let g = lentNet links parents root depth in
+    let g = filedNet links parents root depth in
     let file′ = file in
     let size′ = size in
     One (wordOf (writeSaid g file′ size′))
@@ -83,8 +83,8 @@ one-doeragyeol-read file links parents entries header = (one _, one _, one _, on
 
 -- `doeragyeol::doeragyeol_forward_sum`
 pub one-doeragyeol-forward-sum :
-    (links parents : List ℕ) (root depth start failed : ℕ) (ordinary detour way : List ℕ) →
-    let g = lentNet links parents root depth in
+    (links parents : List ℕ) (root depth rule start failed : ℕ) (ordinary detour way : List ℕ) →
+    let g = lentNet links parents root depth rule in
     let a : Ask = record { start = start; failed = failed; measure = Sum } in
     let o = ordinary in
     let d = detour in
@@ -93,12 +93,12 @@ pub one-doeragyeol-forward-sum :
     × One (ordinaryLeft g a o d way′)
     × One (detourLeft g a o d way′)
     × One (wayRow g a o d way′)
-one-doeragyeol-forward-sum links parents root depth start failed ordinary detour way = (one _, one _, one _, one _)
+one-doeragyeol-forward-sum links parents root depth rule start failed ordinary detour way = (one _, one _, one _, one _)
 
 -- `doeragyeol::doeragyeol_forward_incr`
 pub one-doeragyeol-forward-incr :
-    (links parents : List ℕ) (root depth start failed : ℕ) (ordinary detour way : List ℕ) →
-    let g = lentNet links parents root depth in
+    (links parents : List ℕ) (root depth rule start failed : ℕ) (ordinary detour way : List ℕ) →
+    let g = lentNet links parents root depth rule in
     let a : Ask = record { start = start; failed = failed; measure = Incr } in
     let o = ordinary in
     let d = detour in
@@ -107,12 +107,12 @@ pub one-doeragyeol-forward-incr :
     × One (ordinaryLeft g a o d way′)
     × One (detourLeft g a o d way′)
     × One (wayRow g a o d way′)
-one-doeragyeol-forward-incr links parents root depth start failed ordinary detour way = (one _, one _, one _, one _)
+one-doeragyeol-forward-incr links parents root depth rule start failed ordinary detour way = (one _, one _, one _, one _)
 
 -- `doeragyeol::doeragyeol_forward_max`
 pub one-doeragyeol-forward-max :
-    (links parents : List ℕ) (root depth start failed : ℕ) (ordinary detour way : List ℕ) →
-    let g = lentNet links parents root depth in
+    (links parents : List ℕ) (root depth rule start failed : ℕ) (ordinary detour way : List ℕ) →
+    let g = lentNet links parents root depth rule in
     let a : Ask = record { start = start; failed = failed; measure = Max } in
     let o = ordinary in
     let d = detour in
@@ -121,7 +121,7 @@ pub one-doeragyeol-forward-max :
     × One (ordinaryLeft g a o d way′)
     × One (detourLeft g a o d way′)
     × One (wayRow g a o d way′)
-one-doeragyeol-forward-max links parents root depth start failed ordinary detour way = (one _, one _, one _, one _)
+one-doeragyeol-forward-max links parents root depth rule start failed ordinary detour way = (one _, one _, one _, one _)
 
 -- `doeragyeol::doeragyeol_distance`
 pub one-doeragyeol-distance :

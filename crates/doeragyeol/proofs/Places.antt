@@ -15,7 +15,7 @@ use Rattle.edition.specs.declared.Search.{Search}
 use Rattle.edition.specs.declared.Verdict.{Verdict}
 use Rattle.edition.specs.declared.Verdict.the-variants.{Taken, Refused}
 use Rattle.edition.specs.declared.Why.{Why}
-use Rattle.edition.specs.declared.Why.the-variants.{NodeCount, LinkCount, BadRoot, BadDepth, BadEnds, BadMark, BadParent, NoRoute, NotShort, NoRoom}
+use Rattle.edition.specs.declared.Why.the-variants.{NodeCount, LinkCount, BadRoot, BadDepth, BadRule, BadEnds, BadMark, BadParent, NoRoute, NotShort, NoRoom}
 use Rattle.edition.specs.declared.Why.the-variants.{LinkMissing, TreeLink, BreaksShort, BadStart, BadFailed, NoSwap, BadLength, BadCheck, BadBlock, BadEntry}
 use Rattle.edition.specs.Limits.{memoryLimits}
 use Rattle.edition.specs.Stored.{editionLimits}
@@ -83,14 +83,15 @@ to-placed f zero h = taken
 to-placed f (suc k) h =
     next _ _ (to-placed f k (λ j l. h j (omega (arith, l)))) (λ q. next _ _ (h k (omega arith)) (λ r. end))
 
--- 1 to 4, 5 to 9, and both
+-- 1 to 4 and 14, 5 to 9, and both
 sizes-placed : (most : Limits) (n m : ℕ) (search : Search) → Placed (sizeVerdict most n m search)
 unfolding sizeVerdict
 sizes-placed most n m search =
     next _ _ (at-zero _ NodeCount)
     (λ a. next _ _ (at-zero _ LinkCount)
     (λ b. next _ _ (at-zero _ BadRoot)
-    (λ d. next _ _ (at-zero _ BadDepth) (λ e. end))))
+    (λ d. next _ _ (at-zero _ BadDepth)
+    (λ e. next _ _ (at-zero _ BadRule) (λ f. end)))))
 
 records-placed : (g : Net) → g .nodes ≤ placeMost → g .links ≤ placeMost → Placed (recordVerdict g)
 unfolding recordVerdict

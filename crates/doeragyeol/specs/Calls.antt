@@ -7,6 +7,7 @@ use lib.Dec.{ltb}
 use lib.ListN.{length}
 use Rattle.edition.specs.declared.Verdict.{Verdict}
 use Rattle.edition.specs.Refusals.{ifTaken}
+use Rattle.edition.specs.Stored.{byNumber}
 use Rattle.network.specs.Network.{Net, netOf}
 use Rattle.tree.specs.Tree.{treeOf, apart}
 use Rattle.tree.specs.Answers.{waysVerdict}
@@ -20,19 +21,23 @@ use Rattle.archive.specs.Writer.{fileLength, writeVerdict, writtenRow}
 use Rattle.archive.specs.Reader.{nodesRead, linksRead, searchRead, Rows, readVerdict, rowsRead}
 use Rattle.doeragyeol.specs.Word.{thenRoom, told}
 
--- The network of lent rows, with root and depth as two numbers.
-abbrev pub lentNet : List ℕ → List ℕ → ℕ → ℕ → Net
-lentNet links parents root depth = netOf links parents (record { root = root; depth = depth })
+-- The network of lent rows, with root, depth and tie rule as three numbers.
+abbrev pub lentNet : List ℕ → List ℕ → ℕ → ℕ → ℕ → Net
+lentNet links parents root depth rule = netOf links parents (record { root = root; depth = depth; rule = rule })
 
--- The network of lent rows and a root. The tree distance looks at no depth (`no-depth`), and 0 stands in its place.
+-- The network that the writer files: an edition 1 file means tie rule 0.
+abbrev pub filedNet : List ℕ → List ℕ → ℕ → ℕ → Net
+filedNet links parents root depth = netOf links parents (byNumber (record { root = root; depth = depth }))
+
+-- The network of lent rows and a root. The tree distance looks at no depth and no tie rule (`no-depth`), and 0 stands in their place.
 abbrev pub treeNet : List ℕ → List ℕ → ℕ → Net
-treeNet links parents root = lentNet links parents root 0
+treeNet links parents root = lentNet links parents root 0 0
 
 -- The three rows lent to the reader.
 abbrev pub lentRows : List ℕ → List ℕ → List ℕ → Rows
 lentRows links parents entries = record { links = links; parents = parents; entries = entries }
 
--- The check: 1 to 9, then room for two values. They are how many nodes and links there are.
+-- The check: 1 to 4, 14, 5 to 9, then room for two values. They are how many nodes and links there are.
 unfoldable pub checkSaid : Net → List ℕ → Verdict
 checkSaid g row = thenRoom (netVerdict g) 2 row
 
@@ -40,7 +45,7 @@ checkSaid g row = thenRoom (netVerdict g) 2 row
 unfoldable pub sizesRow : Net → List ℕ → List ℕ
 sizesRow g row = told (checkSaid g row) (g .nodes ∷ g .links ∷ []) row
 
--- The unprotected map: 1 to 10, then room for two values. They are the number of ones and the lowest unprotected node.
+-- The unprotected map: 1 to 4, 14, 5 to 10, then room for two values. They are the number of ones and the lowest unprotected node.
 unfoldable pub mapSaid : Net → List ℕ → List ℕ → Verdict
 mapSaid g words row = thenRoom (mapVerdict g words) 2 row
 
@@ -79,7 +84,8 @@ headerRow file rows row =
     let s = searchRead file in
     told (readSaid file rows row) (nodesRead file ∷ linksRead file ∷ s .root ∷ s .depth ∷ []) row
 
--- The forwarder: 1 to 10, 15, 16 and 17. A row too short for the three values is 10 in its place, as if the ordinary row were empty.
+-- The forwarder: 1 to 4, 14, 5 to 10, 15, 16 and 17. A row too short for the three values is 10 in its place, as if the ordinary row
+-- were empty.
 unfoldable pub forwardSaid : Net → Ask → List ℕ → List ℕ → List ℕ → Verdict
 forwardSaid g a ordinary detour row = forwardVerdict g a (cond (ltb (length row) 3) [] ordinary) detour
 

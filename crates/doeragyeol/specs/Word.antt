@@ -11,7 +11,7 @@ use Rattle.rows.specs.First.{refuseIf, firstly}
 
 -- The version of the interface.
 abbrev pub version : ℕ
-version = 5
+version = 6
 
 -- The largest place that a word holds.
 abbrev pub placeMost : ℕ

@@ -16,14 +16,16 @@ ghost use Rattle.edition.specs.declared.Change.{Change};
 ghost use Rattle.edition.specs.declared.Measure.the-variants.{Sum, Incr, Max};
 ghost use Rattle.forward.specs.declared.Ask.{Ask};
 ghost use Rattle.doeragyeol.specs.Word.{version, placeMost, wordOf, answered};
-ghost use Rattle.doeragyeol.specs.Calls.{lentNet, lentRows, checkSaid, sizesRow, mapSaid, wordsRow, openRow, writeSaid, fileRow, lengthRow};
+ghost use Rattle.doeragyeol.specs.Calls.{lentNet, filedNet, lentRows, checkSaid, sizesRow, mapSaid, wordsRow, openRow, writeSaid, fileRow, lengthRow};
 ghost use Rattle.doeragyeol.specs.Calls.{readSaid, rowsLeft, headerRow, forwardSaid, ordinaryLeft, detourLeft, wayRow};
 ghost use Rattle.doeragyeol.specs.Calls.{treeNet, distanceSaid, apartRow};
 use archive::Header;
 use archive::ReadAnswer;
 use archive::WriteAnswer;
+use edition::Aim;
 use edition::Change;
 use edition::Measure;
+use edition::Memory;
 use edition::Refusal;
 use edition::Search;
 use edition::Verdict;
@@ -35,7 +37,7 @@ use sound::Checked;
 use tree::Answer;
 
 // The version of the interface: what the header declares. A landing that changes that raises it, here and in the name below.
-const VERSION: u32 = 5;
+const VERSION: u32 = 6;
 
 // The word of a call that is not refused.
 const DONE: u32 = 0;
@@ -101,7 +103,7 @@ fn word(said: Verdict) -> u32
     }
 }
 
-// The word where a row for values is too short: the first refusal of 1 to 9, and else 10.
+// The word where a row for values is too short: the first refusal of the network, and else 10.
 fn short_word(links: &[u16], parents: &[u16], search: Search) -> u32
     ensures { λ r.
         let g = netOf (now (links .entry)) (now (parents .entry)) search in
@@ -155,7 +157,7 @@ fn put_header(row: &mut [u64], head: Header)
 
 // The version of the interface. The name ends with it, so that a caller made for another version does not link.
 #[no_mangle]
-pub extern "C" fn doeragyeol_version_5() -> u32
+pub extern "C" fn doeragyeol_version_6() -> u32
     ensures { λ r. ⌜ r ≡ version ⌝ }
 {
     VERSION
@@ -168,17 +170,18 @@ pub extern "C" fn doeragyeol_check(
     parents: &[u16],
     root: u16,
     depth: u16,
+    rule: u16,
     sizes: &mut [u64],
 ) -> u32
     ensures { λ r.
-        let g = lentNet (now (links .entry)) (now (parents .entry)) root depth in
+        let g = lentNet (now (links .entry)) (now (parents .entry)) root depth rule in
         ⌜ (r ≡ wordOf (checkSaid g (now (sizes .entry))))
         × (now (sizes .exit) ≡ sizesRow g (now (sizes .entry))) ⌝ }
 {
     if sizes.len() < SIZES {
-        return short_word(links, parents, Search { root, depth });
+        return short_word(links, parents, Search { root, depth, rule });
     }
-    match sound::check_network(links, parents, Search { root, depth }) {
+    match sound::check_network(links, parents, Search { root, depth, rule }) {
         Checked::Sound(told) => {
             put_two(sizes, told.nodes as u64, told.links as u64);
             DONE
@@ -194,14 +197,15 @@ pub extern "C" fn doeragyeol_table(
     parents: &[u16],
     root: u16,
     depth: u16,
+    rule: u16,
     entries: &mut [u64],
 ) -> u32
     ensures { λ r.
-        let g = lentNet (now (links .entry)) (now (parents .entry)) root depth in
+        let g = lentNet (now (links .entry)) (now (parents .entry)) root depth rule in
         ⌜ (r ≡ wordOf (tableVerdict g (now (entries .entry))))
         × (now (entries .exit) ≡ tableRow g (now (entries .entry))) ⌝ }
 {
-    word(table::table(links, parents, Search { root, depth }, entries))
+    word(table::table(links, parents, Search { root, depth, rule }, entries))
 }
 
 // The unprotected map, into `words`. `told` gets how many nodes are unprotected and the lowest of them.
@@ -211,11 +215,12 @@ pub extern "C" fn doeragyeol_map(
     parents: &[u16],
     root: u16,
     depth: u16,
+    rule: u16,
     words: &mut [u64],
     told: &mut [u64],
 ) -> u32
     ensures { λ r.
-        let g = lentNet (now (links .entry)) (now (parents .entry)) root depth in
+        let g = lentNet (now (links .entry)) (now (parents .entry)) root depth rule in
         let words′ = now (words .entry) in
         let told′ = now (told .entry) in
         ⌜ (r ≡ wordOf (mapSaid g words′ told′))
@@ -223,9 +228,9 @@ pub extern "C" fn doeragyeol_map(
         × (now (told .exit) ≡ openRow g words′ told′) ⌝ }
 {
     if told.len() < TOLD {
-        return short_word(links, parents, Search { root, depth });
+        return short_word(links, parents, Search { root, depth, rule });
     }
-    match map::unprotected_map(links, parents, Search { root, depth }, words) {
+    match map::unprotected_map(links, parents, Search { root, depth, rule }, words) {
         MapAnswer::Is(counted) => {
             put_two(told, counted.count as u64, counted.lowest as u64);
             DONE
@@ -241,6 +246,7 @@ pub extern "C" fn doeragyeol_change(
     parents: &[u16],
     root: u16,
     depth: u16,
+    rule: u16,
     entries: &mut [u64],
     link: u16,
     mark: u16,
@@ -248,18 +254,24 @@ pub extern "C" fn doeragyeol_change(
 ) -> u32
     ensures { λ r.
         let lent : Lent = record { links = now (links .entry); entries = now (entries .entry) } in
-        let g = lentNet (now (links .entry)) (now (parents .entry)) root depth in
+        let g = lentNet (now (links .entry)) (now (parents .entry)) root depth rule in
         let change : Change = record { link = link; mark = mark; length = length } in
-        let after = changed (now (parents .entry)) (record { root = root; depth = depth }) change lent in
+        let after = changed (now (parents .entry)) (record { root = root; depth = depth; rule = rule }) change lent in
         ⌜ (r ≡ wordOf (changeVerdict g (now (entries .entry)) change))
         × (now (links .exit) ≡ after .links)
         × (now (entries .exit) ≡ after .entries) ⌝ }
 {
     let change = Change { link, mark, length };
-    word(change::change(links, parents, Search { root, depth }, entries, change))
+    word(change::change(
+        links,
+        parents,
+        Search { root, depth, rule },
+        entries,
+        change,
+    ))
 }
 
-// The file of a network and depth, into `file`. `size` gets its length.
+// The file of a network and depth, by tie rule 0, into `file`. `size` gets its length.
 #[no_mangle]
 pub extern "C" fn doeragyeol_write(
     links: &[u16],
@@ -270,7 +282,7 @@ pub extern "C" fn doeragyeol_write(
     size: &mut [u64],
 ) -> u32
     ensures { λ r.
-        let g = lentNet (now (links .entry)) (now (parents .entry)) root depth in
+        let g = filedNet (now (links .entry)) (now (parents .entry)) root depth in
         let file′ = now (file .entry) in
         let size′ = now (size .entry) in
         ⌜ (r ≡ wordOf (writeSaid g file′ size′))
@@ -278,9 +290,10 @@ pub extern "C" fn doeragyeol_write(
         × (now (size .exit) ≡ lengthRow g file′ size′) ⌝ }
 {
     if size.len() < SIZE {
-        return short_word(links, parents, Search { root, depth });
+        let rule = Memory::LOWEST;
+        return short_word(links, parents, Search { root, depth, rule });
     }
-    match archive::write(links, parents, Search { root, depth }, file) {
+    match archive::write(links, parents, Aim { root, depth }, file) {
         WriteAnswer::Is(bytes) => {
             put_one(size, bytes as u64);
             DONE
@@ -366,6 +379,7 @@ pub extern "C" fn doeragyeol_forward_sum(
     parents: &[u16],
     root: u16,
     depth: u16,
+    rule: u16,
     start: u16,
     failed: u16,
     ordinary: &mut [u16],
@@ -373,7 +387,7 @@ pub extern "C" fn doeragyeol_forward_sum(
     way: &mut [u64],
 ) -> u32
     ensures { λ r.
-        let g = lentNet (now (links .entry)) (now (parents .entry)) root depth in
+        let g = lentNet (now (links .entry)) (now (parents .entry)) root depth rule in
         let a : Ask = record { start = start; failed = failed; measure = Sum } in
         let o = now (ordinary .entry) in
         let d = now (detour .entry) in
@@ -391,7 +405,7 @@ pub extern "C" fn doeragyeol_forward_sum(
     forward_word(
         links,
         parents,
-        Search { root, depth },
+        Search { root, depth, rule },
         ask,
         ordinary,
         detour,
@@ -406,6 +420,7 @@ pub extern "C" fn doeragyeol_forward_incr(
     parents: &[u16],
     root: u16,
     depth: u16,
+    rule: u16,
     start: u16,
     failed: u16,
     ordinary: &mut [u16],
@@ -413,7 +428,7 @@ pub extern "C" fn doeragyeol_forward_incr(
     way: &mut [u64],
 ) -> u32
     ensures { λ r.
-        let g = lentNet (now (links .entry)) (now (parents .entry)) root depth in
+        let g = lentNet (now (links .entry)) (now (parents .entry)) root depth rule in
         let a : Ask = record { start = start; failed = failed; measure = Incr } in
         let o = now (ordinary .entry) in
         let d = now (detour .entry) in
@@ -431,7 +446,7 @@ pub extern "C" fn doeragyeol_forward_incr(
     forward_word(
         links,
         parents,
-        Search { root, depth },
+        Search { root, depth, rule },
         ask,
         ordinary,
         detour,
@@ -446,6 +461,7 @@ pub extern "C" fn doeragyeol_forward_max(
     parents: &[u16],
     root: u16,
     depth: u16,
+    rule: u16,
     start: u16,
     failed: u16,
     ordinary: &mut [u16],
@@ -453,7 +469,7 @@ pub extern "C" fn doeragyeol_forward_max(
     way: &mut [u64],
 ) -> u32
     ensures { λ r.
-        let g = lentNet (now (links .entry)) (now (parents .entry)) root depth in
+        let g = lentNet (now (links .entry)) (now (parents .entry)) root depth rule in
         let a : Ask = record { start = start; failed = failed; measure = Max } in
         let o = now (ordinary .entry) in
         let d = now (detour .entry) in
@@ -471,7 +487,7 @@ pub extern "C" fn doeragyeol_forward_max(
     forward_word(
         links,
         parents,
-        Search { root, depth },
+        Search { root, depth, rule },
         ask,
         ordinary,
         detour,
@@ -479,7 +495,7 @@ pub extern "C" fn doeragyeol_forward_max(
     )
 }
 
-// The length of the tree path from one node to another. `distance` gets it. The tree has no depth.
+// The length of the tree path from one node to another. `distance` gets it. The tree has no depth and no tie rule.
 #[no_mangle]
 pub extern "C" fn doeragyeol_distance(
     links: &[u16],
@@ -494,7 +510,11 @@ pub extern "C" fn doeragyeol_distance(
         ⌜ (r ≡ wordOf (distanceSaid g from to (now (distance .entry))))
         × (now (distance .exit) ≡ apartRow g from to (now (distance .entry))) ⌝ }
 {
-    let search = Search { root, depth: 0 };
+    let search = Search {
+        root,
+        depth: 0,
+        rule: 0,
+    };
     match tree::tree_distance(links, parents, search, from as usize, to as usize) {
         Answer::Is(length) => {
             if distance.len() < DISTANCE {

@@ -2,8 +2,8 @@
 use Prim.Native.Nat.{_≤_}
 use native.Mathlib.Omega.{arith}
 use Rattle.edition.specs.declared.Why.{Why}
-use Rattle.edition.specs.declared.Why.the-variants.{NodeCount, LinkCount, BadRoot, BadDepth, BadEnds, BadMark, BadParent, NoRoute, NotShort, NoRoom}
-use Rattle.edition.specs.declared.Why.the-variants.{LinkMissing, TreeLink, BreaksShort, BadStart, BadFailed, NoSwap}
+use Rattle.edition.specs.declared.Why.the-variants.{NodeCount, LinkCount, BadRoot, BadDepth, BadRule, BadEnds, BadMark, BadParent, NoRoute, NotShort}
+use Rattle.edition.specs.declared.Why.the-variants.{NoRoom, LinkMissing, TreeLink, BreaksShort, BadStart, BadFailed, NoSwap}
 use Rattle.edition.specs.declared.Why.the-variants.{BadLength, BadCheck, BadBlock, BadEntry}
 use Rattle.edition.specs.Refusals.{numberOf}
 
@@ -13,6 +13,7 @@ numbered NodeCount = omega arith
 numbered LinkCount = omega arith
 numbered BadRoot = omega arith
 numbered BadDepth = omega arith
+numbered BadRule = omega arith
 numbered BadEnds = omega arith
 numbered BadMark = omega arith
 numbered BadParent = omega arith

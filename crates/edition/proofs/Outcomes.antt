@@ -3,11 +3,21 @@ use Prim.Native.Nat.{ℕ}
 use Rattle.edition.specs.Entries.{noSwap, blank, swapBy}
 use Rattle.edition.specs.Limits.{noLink, noNode, memoryLimits}
 use Rattle.edition.specs.Refusals.{numberOf}
-use Rattle.edition.specs.Stored.{editionLimits}
+use Rattle.edition.specs.Stored.{editionLimits, aimOf, byNumber}
+use Rattle.edition.specs.declared.Aim.{Aim}
 use Rattle.edition.specs.declared.Entry.{Entry}
 use Rattle.edition.specs.declared.Measure.{Measure}
+use Rattle.edition.specs.declared.Search.{Search}
 use Rattle.edition.specs.declared.Why.{Why}
 use Rattle.edition.proofs.Only.{One, one}
+
+-- `edition::Search::aim`
+pub one-search-aim : (self : Search) → One (aimOf self)
+one-search-aim self = one _
+
+-- `edition::Aim::by_number`
+pub one-aim-by-number : (self : Aim) → One (byNumber self)
+one-aim-by-number self = one _
 
 -- `edition::Edition::limits`
 pub one-edition-limits : One (editionLimits)

@@ -27,6 +27,14 @@ linkLimit = 2048
 abbrev pub depthLimit : ℕ
 depthLimit = 510
 
+-- Tie rule 0: of equal costs the lowest link number decides.
+abbrev pub lowestNumber : ℕ
+lowestNumber = 0
+
+-- Tie rule 1: of equal costs the lower incr cost decides, and then the lowest link number.
+abbrev pub nearerFirst : ℕ
+nearerFirst = 1
+
 -- What memory holds itself to.
 abbrev pub memoryLimits : Limits
 memoryLimits = record { nodes = nodeLimit; links = linkLimit; depth = depthLimit }

@@ -2,7 +2,7 @@
 use mathlib.Core.List.{List, [], _∷_}
 use Prim.Native.Nat.{ℕ}
 use Rattle.edition.specs.declared.Why.{Why}
-use Rattle.edition.specs.declared.Why.the-variants.{NodeCount, LinkCount, BadRoot, BadDepth, BadEnds, BadMark, BadParent, NoRoute, NotShort}
+use Rattle.edition.specs.declared.Why.the-variants.{NodeCount, LinkCount, BadRoot, BadDepth, BadRule, BadEnds, BadMark, BadParent, NoRoute, NotShort}
 use Rattle.edition.specs.declared.Why.the-variants.{NoRoom, LinkMissing, TreeLink, BreaksShort, BadStart, BadFailed, NoSwap}
 use Rattle.edition.specs.declared.Why.the-variants.{BadLength, BadCheck, BadBlock, BadEntry}
 use Rattle.edition.specs.declared.Verdict.{Verdict}
@@ -14,6 +14,7 @@ numberOf NodeCount = 1
 numberOf LinkCount = 2
 numberOf BadRoot = 3
 numberOf BadDepth = 4
+numberOf BadRule = 14
 numberOf BadEnds = 5
 numberOf BadMark = 6
 numberOf BadParent = 7

@@ -1,6 +1,9 @@
 -- The numbers of the stored form, edition 1. They stay for ever, whatever memory comes to hold. Assumes nothing.
 use Prim.Native.Nat.{ℕ, _-_}
 use Rattle.edition.specs.declared.Limits.{Limits}
+use Rattle.edition.specs.declared.Search.{Search}
+use Rattle.edition.specs.declared.Aim.{Aim}
+use Rattle.edition.specs.Limits.{lowestNumber}
 
 -- Byte 1 of every block.
 abbrev pub editionOne : ℕ
@@ -21,6 +24,14 @@ storedDepth = 510
 -- What an edition 1 file can hold.
 abbrev pub editionLimits : Limits
 editionLimits = record { nodes = storedNodes; links = storedLinks; depth = storedDepth }
+
+-- The root and the depth of a search alone.
+abbrev pub aimOf : Search → Aim
+aimOf s = record { root = s .root; depth = s .depth }
+
+-- The search that a root and a depth mean in a file: edition 1 files always mean rule 0.
+abbrev pub byNumber : Aim → Search
+byNumber a = record { root = a .root; depth = a .depth; rule = lowestNumber }
 
 -- A block is 512 bytes.
 abbrev pub blockBytes : ℕ

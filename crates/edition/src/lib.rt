@@ -1,7 +1,7 @@
 // The edition's numbers and memory's, and the values that go in and out of every layer. All are plain and go by value.
 ghost use mathlib.Core.Path.{_≡_};
 ghost use Rattle.edition.specs.Limits.{noLink, noNode, memoryLimits};
-ghost use Rattle.edition.specs.Stored.{editionLimits};
+ghost use Rattle.edition.specs.Stored.{editionLimits, aimOf, byNumber};
 ghost use Rattle.edition.specs.Refusals.{numberOf};
 ghost use Rattle.edition.specs.Entries.{noSwap, blank, swapBy};
 
@@ -11,6 +11,7 @@ pub enum Why {
     LinkCount,
     BadRoot,
     BadDepth,
+    BadRule,
     BadEnds,
     BadMark,
     BadParent,
@@ -54,10 +55,42 @@ pub struct Limits {
     pub depth: usize,
 }
 
-// The numbers that a caller names beside the rows of a network.
+// The numbers that a caller names beside the rows of a network: the root, the depth, and the tie rule.
 pub struct Search {
     pub root: u16,
     pub depth: u16,
+    pub rule: u16,
+}
+
+// The root and the depth alone, where there is no tie rule to name.
+pub struct Aim {
+    pub root: u16,
+    pub depth: u16,
+}
+
+impl Search {
+    // Its root and depth alone.
+    pub fn aim(self) -> Aim
+        ensures { λ r. ⌜ r ≡ aimOf self ⌝ }
+    {
+        Aim {
+            root: self.root,
+            depth: self.depth,
+        }
+    }
+}
+
+impl Aim {
+    // The search that they mean in an edition 1 file: by tie rule 0.
+    pub fn by_number(self) -> Search
+        ensures { λ r. ⌜ r ≡ byNumber self ⌝ }
+    {
+        Search {
+            root: self.root,
+            depth: self.depth,
+            rule: Memory::LOWEST,
+        }
+    }
 }
 
 // A change of one link: its number, and the service mark and length that it gets.
@@ -233,6 +266,11 @@ impl Memory {
 
     pub const DEPTH: usize = 510;
 
+    // The tie rules: of equal costs the lowest number, or the lower incr cost and then the lowest number.
+    pub const LOWEST: u16 = 0;
+
+    pub const NEARER: u16 = 1;
+
     // Numbers a record: a link's, an entry's.
     pub const LINK: usize = 4;
 
@@ -282,6 +320,7 @@ pub fn number(why: Why) -> u16
         Why::LinkCount => 2,
         Why::BadRoot => 3,
         Why::BadDepth => 4,
+        Why::BadRule => 14,
         Why::BadEnds => 5,
         Why::BadMark => 6,
         Why::BadParent => 7,

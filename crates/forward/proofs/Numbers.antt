@@ -7,13 +7,13 @@ use Rattle.edition.specs.Refusals.{numberOf}
 use Rattle.rows.specs.Lists.{has}
 use Rattle.rows.proofs.Numbered.{Gives, if-gives, none-gives, first-gives, gives-left}
 use Rattle.network.specs.Network.{Net}
-use Rattle.sound.proofs.Numbers.{oneToNine, net-gives}
+use Rattle.sound.proofs.Numbers.{ofNetwork, net-gives}
 use Rattle.forward.specs.declared.Ask.{Ask}
 use Rattle.forward.specs.Answers.{askVerdict, forwardVerdict}
 
--- 1 to 10, 15, 16 and 17
+-- 1 to 10, 14, 15, 16 and 17
 abbrev pub ofForwarder : List ℕ
-ofForwarder = oneToNine ++ 10 ∷ 15 ∷ 16 ∷ 17 ∷ []
+ofForwarder = ofNetwork ++ 10 ∷ 15 ∷ 16 ∷ 17 ∷ []
 
 ask-gives : (n root : ℕ) (a : Ask) (ordinary detour : ℕ) → Gives ofForwarder (askVerdict n root a ordinary detour)
 unfolding askVerdict numberOf has
@@ -25,6 +25,6 @@ ask-gives n root a ordinary detour =
 pub forward-gives : (g : Net) (a : Ask) (ordinary detour : List ℕ) → Gives ofForwarder (forwardVerdict g a ordinary detour)
 unfolding forwardVerdict numberOf has
 forward-gives g a ordinary detour =
-    first-gives ofForwarder _ _ (gives-left oneToNine (10 ∷ 15 ∷ 16 ∷ 17 ∷ []) _ (net-gives g))
+    first-gives ofForwarder _ _ (gives-left ofNetwork (10 ∷ 15 ∷ 16 ∷ 17 ∷ []) _ (net-gives g))
     (first-gives ofForwarder _ _ (ask-gives _ _ a _ _)
     (first-gives ofForwarder _ _ (if-gives ofForwarder _ NoSwap (a .failed) refl) (none-gives ofForwarder)))

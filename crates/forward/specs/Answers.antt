@@ -32,7 +32,7 @@ askVerdict n root a ordinary detour =
 unfoldable pub stranded : Net → Ask → Bool
 stranded g a = cutOff g a && not (eqb (entry g (a .failed) .state) swapState)
 
--- The order: 1 to 9, 10, 15, 16, 17 at the failed node.
+-- The order: 1 to 4, 14, 5 to 10, 15, 16, 17 at the failed node.
 unfoldable pub forwardVerdict : Net → Ask → List ℕ → List ℕ → Verdict
 forwardVerdict g a ordinary detour =
     firstly

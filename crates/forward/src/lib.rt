@@ -321,7 +321,7 @@ fn detour_by(
 
 // The list for a start while the tree link of a node is down, at the beginning of the row that applies: the ordinary row where the
 // start is not cut off, else the detour row. The other row, and what lies past the list, stay. 10 where a row has fewer than 1,022
-// numbers. Refusals 1 to 10, 15, 16 and 17, on which both rows stay.
+// numbers. Refusals 1 to 4, 14, 5 to 10, 15, 16 and 17, on which both rows stay.
 pub fn fill(
     links: &[u16],
     parents: &[u16],

@@ -6,9 +6,10 @@ use Prim.Native.Nat.{ℕ, _≤_}
 use native.Mathlib.Omega.{arith}
 use lib.ListN.{length, getD}
 use Rattle.edition.specs.declared.Search.{Search}
+use Rattle.edition.specs.declared.Aim.{Aim}
 use Rattle.edition.specs.declared.Verdict.the-variants.{Taken}
 use Rattle.edition.specs.Limits.{memoryLimits, longest}
-use Rattle.edition.specs.Stored.{editionLimits}
+use Rattle.edition.specs.Stored.{editionLimits, byNumber}
 use Rattle.edition.proofs.Within.{Within}
 use Rattle.rows.proofs.Refusing.{head-taken}
 use Rattle.network.specs.Network.{linksIn, netOf}
@@ -33,9 +34,9 @@ sizes-fit links parents search ok =
 
 -- the file of every sound network, of rows whose numbers have 16 bits, is taken where the lent rows have room
 pub sound-accepted :
-    (links parents : List ℕ) (search : Search)
-    → netVerdict (netOf links parents search) ≡ Taken → ((i : ℕ) → getD links i 0 ≤ longest) → (rows : Rows)
+    (links parents : List ℕ) (aim : Aim)
+    → netVerdict (netOf links parents (byNumber aim)) ≡ Taken → ((i : ℕ) → getD links i 0 ≤ longest) → (rows : Rows)
     → tooShort (length parents) (linksIn links) rows ≡ false
-    → readVerdict (fileOf (netOf links parents search)) rows ≡ Taken
-sound-accepted links parents search ok held rows room =
-    written-accepted links parents search ok (sizes-fit links parents search ok) held rows room
+    → readVerdict (fileOf (netOf links parents (byNumber aim))) rows ≡ Taken
+sound-accepted links parents aim ok held rows room =
+    written-accepted links parents aim ok (sizes-fit links parents (byNumber aim) ok) held rows room

@@ -1,5 +1,6 @@
 pub mod Packing
 pub mod Whole
+pub mod Rules
 pub mod Wording
 pub mod Bits
 pub mod Outcomes

@@ -7,13 +7,13 @@ use Rattle.edition.specs.Refusals.{numberOf}
 use Rattle.rows.specs.Lists.{has}
 use Rattle.rows.proofs.Numbered.{Gives, if-gives, none-gives, first-gives, gives-left}
 use Rattle.network.specs.Network.{Net}
-use Rattle.sound.proofs.Numbers.{oneToNine, net-gives}
-use Rattle.table.proofs.Numbers.{oneToTen}
+use Rattle.sound.proofs.Numbers.{ofNetwork, net-gives}
+use Rattle.table.proofs.Numbers.{ofTable}
 use Rattle.map.specs.Map.{mapVerdict}
 
--- the unprotected map: 1 to 10
-pub map-gives : (g : Net) (row : List ℕ) → Gives oneToTen (mapVerdict g row)
+-- the unprotected map: 1 to 10 and 14
+pub map-gives : (g : Net) (row : List ℕ) → Gives ofTable (mapVerdict g row)
 unfolding mapVerdict numberOf has
 map-gives g row =
-    first-gives oneToTen _ _ (gives-left oneToNine (10 ∷ []) _ (net-gives g))
-    (first-gives oneToTen _ _ (if-gives oneToTen _ NoRoom 0 refl) (none-gives oneToTen))
+    first-gives ofTable _ _ (gives-left ofNetwork (10 ∷ []) _ (net-gives g))
+    (first-gives ofTable _ _ (if-gives ofTable _ NoRoom 0 refl) (none-gives ofTable))

@@ -43,7 +43,7 @@ lowest g = foundOr noNode (firstTo (unprotected g) (g .nodes))
 unfoldable pub toldOf : Net → Unprotected
 toldOf g = record { count = countUnprotected g; lowest = lowest g }
 
--- 1 to 9, then 10 where fewer than eight words are lent.
+-- 1 to 4, 14, 5 to 9, then 10 where fewer than eight words are lent.
 unfoldable pub mapVerdict : Net → List ℕ → Verdict
 mapVerdict g row = firstly (netVerdict g ∷ refuseIf (ltb (length row) mapWords) NoRoom 0 ∷ [])
 

@@ -5,9 +5,9 @@ use Prim.Native.Nat.{_*_, min}
 use Rattle.edition.specs.Limits.{noLink, linkLimit, linkWidth}
 use Rattle.edition.specs.declared.Limits.{Limits}
 use Rattle.edition.specs.declared.Search.{Search}
-use Rattle.edition.specs.declared.Why.the-variants.{NodeCount, LinkCount, BadRoot, BadDepth, BadEnds, BadMark, BadParent}
+use Rattle.edition.specs.declared.Why.the-variants.{NodeCount, LinkCount, BadRoot, BadDepth, BadRule, BadEnds, BadMark, BadParent}
 use Rattle.network.specs.Network.{linksIn, linkIn, putLink, frontLinks, pastLinks, netOf, isParent, inService, touches as touchesIt, otherEnd}
-use Rattle.network.specs.Records.{badNodes, badLinks, badRoot, badDepth, sizeVerdict, badEnds, badMark, badParent}
+use Rattle.network.specs.Records.{badNodes, badLinks, badRoot, badDepth, badRule, sizeVerdict, badEnds, badMark, badParent}
 use Rattle.network.specs.declared.Link.{Link}
 use Rattle.rows.specs.First.{refuseIf, refuseAt}
 use lib.ListN.{length, getD}
@@ -75,6 +75,10 @@ one-check-root n root = one _
 -- `network::check_depth`
 pub one-check-depth : (most : Limits) (depth : ℕ) → One (refuseIf (badDepth most depth) BadDepth 0)
 one-check-depth most depth = one _
+
+-- `network::check_rule`
+pub one-check-rule : (rule : ℕ) → One (refuseIf (badRule rule) BadRule 0)
+one-check-rule rule = one _
 
 -- `network::check_sizes`
 pub one-check-sizes : (most : Limits) (n m : ℕ) (search : Search) → One (sizeVerdict most n m search)

@@ -23,7 +23,7 @@ pub links-within : (most : Limits) (m : ℕ) → badLinks most m ≡ false → m
 unfolding badLinks
 links-within most m h = ltb-false (most .links) m h
 
--- the same of 1 to 4
+-- the same of 1 to 4 and 14
 module _ (most : Limits) (n m : ℕ) (search : Search) (t : sizeVerdict most n m search ≡ Taken) where
   pub sized-nodes : n ≤ most .nodes
   unfolding sizeVerdict
@@ -33,7 +33,7 @@ module _ (most : Limits) (n m : ℕ) (search : Search) (t : sizeVerdict most n m
   unfolding sizeVerdict
   sized-links = links-within most m (if-taken _ LinkCount 0 (head-taken _ _ (rest-taken _ _ t)))
 
--- what passes 1 to 4 at some limits passes them at larger ones
+-- what passes 1 to 4 and 14 at some limits passes them at larger ones
 module _ (small large : Limits) (w : Within small large) where
   nodes-grow : (n : ℕ) → badNodes small n ≡ false → badNodes large n ≡ false
   unfolding badNodes
@@ -62,4 +62,4 @@ module _ (small large : Limits) (w : Within small large) where
       both-taken _ _ (if-passes _ NodeCount 0 (nodes-grow n (if-taken _ NodeCount 0 (head-taken _ _ t))))
       (both-taken _ _ (if-passes _ LinkCount 0 (links-grow m (if-taken _ LinkCount 0 (head-taken _ _ t2))))
       (both-taken _ _ (head-taken _ _ t3)
-      (both-taken _ _ (if-passes _ BadDepth 0 (depth-grows (search .depth) (if-taken _ BadDepth 0 (head-taken _ _ t4)))) none-left)))
+      (both-taken _ _ (if-passes _ BadDepth 0 (depth-grows (search .depth) (if-taken _ BadDepth 0 (head-taken _ _ t4)))) (rest-taken _ _ t4))))

@@ -11,7 +11,7 @@ use Rattle.rows.specs.Count.{someTo}
 use Rattle.rows.specs.Records.{recordsIn, recordIn, withRecord, firstRecords, pastRecords}
 use Rattle.network.specs.declared.Link.{Link}
 
--- n nodes and m links; the record of each link, the parent link of each node; root and depth.
+-- n nodes and m links; the record of each link, the parent link of each node; root, depth and tie rule.
 pub record Net : Type 0 where
   pub nodes : ℕ
   pub links : ℕ

@@ -1,4 +1,4 @@
--- Refusals 1 to 7: the sizes, and what a link's or a node's own record is refused for. Assumes nothing.
+-- Refusals 1 to 7 and 14: the sizes, and what a link's or a node's own record is refused for. Assumes nothing.
 use mathlib.Core.Bool.{Bool, cond, not, _&&_, _||_}
 use mathlib.Core.List.{[], _∷_}
 use Prim.Native.Nat.{ℕ}
@@ -6,8 +6,8 @@ use lib.Dec.{eqb, leb, ltb}
 use Rattle.edition.specs.declared.Limits.{Limits}
 use Rattle.edition.specs.declared.Search.{Search}
 use Rattle.edition.specs.declared.Verdict.{Verdict}
-use Rattle.edition.specs.declared.Why.the-variants.{NodeCount, LinkCount, BadRoot, BadDepth}
-use Rattle.edition.specs.Limits.{noLink, wholeSearch, served, withdrawn}
+use Rattle.edition.specs.declared.Why.the-variants.{NodeCount, LinkCount, BadRoot, BadDepth, BadRule}
+use Rattle.edition.specs.Limits.{noLink, wholeSearch, lowestNumber, nearerFirst, served, withdrawn}
 use Rattle.rows.specs.First.{refuseIf, firstly}
 use Rattle.network.specs.declared.Link.{Link}
 use Rattle.network.specs.Network.{Net, inService, touches}
@@ -28,14 +28,19 @@ badRoot n root = leb n root
 unfoldable pub badDepth : Limits → ℕ → Bool
 badDepth most depth = ltb (most .depth) depth && not (eqb depth wholeSearch)
 
--- 1 to 4, of numbers: n, m, root and depth.
+-- 14: the tie rule is not 0 or 1.
+unfoldable pub badRule : ℕ → Bool
+badRule rule = not (eqb rule lowestNumber || eqb rule nearerFirst)
+
+-- 1 to 4, then 14, of numbers: n, m, root, depth and tie rule.
 unfoldable pub sizeVerdict : Limits → ℕ → ℕ → Search → Verdict
 sizeVerdict most n m search =
     firstly
     (refuseIf (badNodes most n) NodeCount 0 ∷
     refuseIf (badLinks most m) LinkCount 0 ∷
     refuseIf (badRoot n (search .root)) BadRoot 0 ∷
-    refuseIf (badDepth most (search .depth)) BadDepth 0 ∷ [])
+    refuseIf (badDepth most (search .depth)) BadDepth 0 ∷
+    refuseIf (badRule (search .rule)) BadRule 0 ∷ [])
 
 -- 5: an end is not a node, or both ends are equal.
 unfoldable pub badEnds : ℕ → Link → Bool

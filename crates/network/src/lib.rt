@@ -1,12 +1,12 @@
-// A network in lent rows: its links and its nodes' parent links, read totally; refusals 1 to 7.
+// A network in lent rows: its links and its nodes' parent links, read totally; refusals 1 to 7 and 14.
 ghost use mathlib.Core.Path.{_≡_};
 ghost use Prim.Native.Nat.{_*_, min};
 ghost use lib.ListN.{length, getD};
 ghost use Rattle.edition.specs.Limits.{noLink, linkLimit, linkWidth};
-ghost use Rattle.edition.specs.declared.Why.the-variants.{NodeCount, LinkCount, BadRoot, BadDepth, BadEnds, BadMark, BadParent};
+ghost use Rattle.edition.specs.declared.Why.the-variants.{NodeCount, LinkCount, BadRoot, BadDepth, BadRule, BadEnds, BadMark, BadParent};
 ghost use Rattle.rows.specs.First.{firstTo, refuseIf, refuseAt};
 ghost use Rattle.network.specs.Network.{linksIn, linkIn, putLink, frontLinks, pastLinks, netOf, isParent, inService, touches as touchesIt, otherEnd};
-ghost use Rattle.network.specs.Records.{badNodes, badLinks, badRoot, badDepth, sizeVerdict, badEnds, badMark, unfit, badParent};
+ghost use Rattle.network.specs.Records.{badNodes, badLinks, badRoot, badDepth, badRule, sizeVerdict, badEnds, badMark, unfit, badParent};
 use edition::Edition;
 use edition::Found;
 use edition::Limits;
@@ -166,6 +166,16 @@ fn bad_depth(most: Limits, depth: u16) -> bool
     depth != Edition::WHOLE
 }
 
+// 14: the tie rule is neither 0 nor 1.
+fn bad_rule(rule: u16) -> bool
+    ensures { λ r. ⌜ r ≡ badRule rule ⌝ }
+{
+    if rule == Memory::LOWEST {
+        return false;
+    }
+    rule != Memory::NEARER
+}
+
 // Refusal 1, of the number of nodes.
 pub fn check_nodes(most: Limits, n: usize) -> Verdict
     ensures { λ r. ⌜ r ≡ refuseIf (badNodes most n) NodeCount 0 ⌝ }
@@ -194,7 +204,14 @@ pub fn check_depth(most: Limits, depth: u16) -> Verdict
     rows::refuse_if(bad_depth(most, depth), Why::BadDepth, 0)
 }
 
-// Refusals 1 to 4, of numbers: n, m, root and depth.
+// Refusal 14, of the tie rule.
+pub fn check_rule(rule: u16) -> Verdict
+    ensures { λ r. ⌜ r ≡ refuseIf (badRule rule) BadRule 0 ⌝ }
+{
+    rows::refuse_if(bad_rule(rule), Why::BadRule, 0)
+}
+
+// Refusals 1 to 4, then 14, of numbers: n, m, root, depth and tie rule.
 pub fn check_sizes(most: Limits, n: usize, m: usize, search: Search) -> Verdict
     ensures { λ r. ⌜ r ≡ sizeVerdict most n m search ⌝ }
 {
@@ -210,7 +227,11 @@ pub fn check_sizes(most: Limits, n: usize, m: usize, search: Search) -> Verdict
     let Verdict::Taken = root else {
         return root;
     };
-    check_depth(most, search.depth)
+    let depth = check_depth(most, search.depth);
+    let Verdict::Taken = depth else {
+        return depth;
+    };
+    check_rule(search.rule)
 }
 
 // 5: an end is no node, or both ends are equal.

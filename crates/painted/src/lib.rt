@@ -4,6 +4,7 @@
 use archive::Header;
 use archive::ReadAnswer;
 use archive::WriteAnswer;
+use edition::Aim;
 use edition::Change;
 use edition::Edition;
 use edition::Entry;
@@ -21,6 +22,15 @@ use sound::Checked;
 use table::EntryAnswer;
 use tree::Answer;
 use tree::Climb;
+
+// A search by tie rule 1, under which more is called than under rule 0.
+fn nearer(root: u16, depth: u16) -> Search {
+    Search {
+        root,
+        depth,
+        rule: Memory::NEARER,
+    }
+}
 
 // Two numbers as one.
 fn both(a: u64, b: u64) -> u64 {
@@ -85,7 +95,7 @@ pub extern "C" fn painted_link_at(links: &[u16], e: usize) -> u64 {
 
 #[no_mangle]
 pub extern "C" fn painted_check_sizes(n: usize, m: usize, root: u16, depth: u16) -> u64 {
-    said(network::check_sizes(Memory::limits(), n, m, Search { root, depth }))
+    said(network::check_sizes(Memory::limits(), n, m, nearer(root, depth)))
 }
 
 #[no_mangle]
@@ -105,7 +115,7 @@ pub extern "C" fn painted_check_parents(
     root: u16,
     depth: u16,
 ) -> u64 {
-    said(network::check_parents(links, parents, Search { root, depth }))
+    said(network::check_parents(links, parents, nearer(root, depth)))
 }
 
 #[no_mangle]
@@ -132,7 +142,7 @@ pub extern "C" fn painted_up(
     depth: u16,
     u: usize,
 ) -> u64 {
-    tree::up(links, parents, Search { root, depth }, u) as u64
+    tree::up(links, parents, nearer(root, depth), u) as u64
 }
 
 #[no_mangle]
@@ -143,7 +153,7 @@ pub extern "C" fn painted_rise(
     depth: u16,
     u: usize,
 ) -> u64 {
-    tree::rise(links, parents, Search { root, depth }, u) as u64
+    tree::rise(links, parents, nearer(root, depth), u) as u64
 }
 
 #[no_mangle]
@@ -154,7 +164,7 @@ pub extern "C" fn painted_step(
     depth: u16,
     u: usize,
 ) -> u64 {
-    let climb = Climb::begin(u).step(links, parents, Search { root, depth });
+    let climb = Climb::begin(u).step(links, parents, nearer(root, depth));
     both(both(climb.node as u64, climb.hops as u64), climb.dist)
 }
 
@@ -166,7 +176,7 @@ pub extern "C" fn painted_has_route(
     depth: u16,
     u: usize,
 ) -> u64 {
-    if tree::has_route(links, parents, Search { root, depth }, u) {
+    if tree::has_route(links, parents, nearer(root, depth), u) {
         1
     } else {
         0
@@ -181,7 +191,7 @@ pub extern "C" fn painted_distances(
     depth: u16,
     row: &mut [u64],
 ) -> u64 {
-    said(tree::distances(links, parents, Search { root, depth }, row))
+    said(tree::distances(links, parents, nearer(root, depth), row))
 }
 
 #[no_mangle]
@@ -192,7 +202,7 @@ pub extern "C" fn painted_check_way(
     depth: u16,
     u: usize,
 ) -> u64 {
-    said(tree::check_way(links, parents, Search { root, depth }, u))
+    said(tree::check_way(links, parents, nearer(root, depth), u))
 }
 
 #[no_mangle]
@@ -204,7 +214,7 @@ pub extern "C" fn painted_route(
     u: usize,
     row: &mut [usize],
 ) -> u64 {
-    answered(tree::route(links, parents, Search { root, depth }, u, row))
+    answered(tree::route(links, parents, nearer(root, depth), u, row))
 }
 
 #[no_mangle]
@@ -216,7 +226,7 @@ pub extern "C" fn painted_meet_of(
     u: usize,
     z: usize,
 ) -> u64 {
-    answered(tree::meet_of(links, parents, Search { root, depth }, u, z))
+    answered(tree::meet_of(links, parents, nearer(root, depth), u, z))
 }
 
 #[no_mangle]
@@ -228,7 +238,7 @@ pub extern "C" fn painted_tree_distance(
     u: usize,
     z: usize,
 ) -> u64 {
-    answered(tree::tree_distance(links, parents, Search { root, depth }, u, z))
+    answered(tree::tree_distance(links, parents, nearer(root, depth), u, z))
 }
 
 #[no_mangle]
@@ -240,7 +250,7 @@ pub extern "C" fn painted_put_header(
     root: u16,
     depth: u16,
 ) -> u64 {
-    record::put_header(bytes, at, n, m, Search { root, depth });
+    record::put_header(bytes, at, n, m, nearer(root, depth));
     0
 }
 
@@ -298,7 +308,7 @@ pub extern "C" fn painted_survey(
     depth: u16,
     row: &mut [u64],
 ) -> u64 {
-    said(survey::distances(links, parents, Search { root, depth }, row))
+    said(survey::distances(links, parents, nearer(root, depth), row))
 }
 
 #[no_mangle]
@@ -309,7 +319,7 @@ pub extern "C" fn painted_fill(
     depth: u16,
     survey: &mut [u64],
 ) -> u64 {
-    said(survey::fill(links, parents, Search { root, depth }, survey))
+    said(survey::fill(links, parents, nearer(root, depth), survey))
 }
 
 #[no_mangle]
@@ -320,7 +330,7 @@ pub extern "C" fn painted_survey_network(
     depth: u16,
     survey: &mut [u64],
 ) -> u64 {
-    said(sound::survey_network(links, parents, Search { root, depth }, survey))
+    said(sound::survey_network(links, parents, nearer(root, depth), survey))
 }
 
 #[no_mangle]
@@ -330,7 +340,7 @@ pub extern "C" fn painted_check_network(
     root: u16,
     depth: u16,
 ) -> u64 {
-    match sound::check_network(links, parents, Search { root, depth }) {
+    match sound::check_network(links, parents, nearer(root, depth)) {
         Checked::Sound(sizes) => both(sizes.nodes as u64, sizes.links as u64),
         Checked::Unsound(refusal) => refused(refusal),
     }
@@ -344,7 +354,7 @@ pub extern "C" fn painted_check_table(
     depth: u16,
     entries: &[u64],
 ) -> u64 {
-    said(table::check_table(links, parents, Search { root, depth }, entries))
+    said(table::check_table(links, parents, nearer(root, depth), entries))
 }
 
 #[no_mangle]
@@ -356,7 +366,7 @@ pub extern "C" fn painted_refresh(
     marks: &[u64],
     entries: &mut [u64],
 ) -> u64 {
-    said(table::refresh(links, parents, Search { root, depth }, marks, entries))
+    said(table::refresh(links, parents, nearer(root, depth), marks, entries))
 }
 
 #[no_mangle]
@@ -367,7 +377,7 @@ pub extern "C" fn painted_table(
     depth: u16,
     entries: &mut [u64],
 ) -> u64 {
-    said(table::table(links, parents, Search { root, depth }, entries))
+    said(table::table(links, parents, nearer(root, depth), entries))
 }
 
 #[no_mangle]
@@ -378,7 +388,7 @@ pub extern "C" fn painted_check_entry(
     depth: u16,
     x: usize,
 ) -> u64 {
-    said(table::check_entry(links, parents, Search { root, depth }, x))
+    said(table::check_entry(links, parents, nearer(root, depth), x))
 }
 
 #[no_mangle]
@@ -389,7 +399,7 @@ pub extern "C" fn painted_entry_of(
     depth: u16,
     x: usize,
 ) -> u64 {
-    match table::entry_of(links, parents, Search { root, depth }, x) {
+    match table::entry_of(links, parents, nearer(root, depth), x) {
         EntryAnswer::Is(entry) => entered(entry),
         EntryAnswer::Not(refusal) => refused(refusal),
     }
@@ -403,7 +413,7 @@ pub extern "C" fn painted_check_write(
     depth: u16,
     file: &[u8],
 ) -> u64 {
-    said(archive::check_write(links, parents, Search { root, depth }, file))
+    said(archive::check_write(links, parents, Aim { root, depth }, file))
 }
 
 #[no_mangle]
@@ -414,7 +424,7 @@ pub extern "C" fn painted_write(
     depth: u16,
     file: &mut [u8],
 ) -> u64 {
-    match archive::write(links, parents, Search { root, depth }, file) {
+    match archive::write(links, parents, Aim { root, depth }, file) {
         WriteAnswer::Is(bytes) => bytes as u64,
         WriteAnswer::Not(refusal) => refused(refusal),
     }
@@ -455,7 +465,7 @@ pub extern "C" fn painted_check_change(
     length: u16,
 ) -> u64 {
     let change = Change { link, mark, length };
-    said(change::check_change(links, parents, Search { root, depth }, entries, change))
+    said(change::check_change(links, parents, nearer(root, depth), entries, change))
 }
 
 #[no_mangle]
@@ -470,7 +480,7 @@ pub extern "C" fn painted_change(
     length: u16,
 ) -> u64 {
     let change = Change { link, mark, length };
-    said(change::change(links, parents, Search { root, depth }, entries, change))
+    said(change::change(links, parents, nearer(root, depth), entries, change))
 }
 
 #[no_mangle]
@@ -481,7 +491,7 @@ pub extern "C" fn painted_unprotected_map(
     depth: u16,
     words: &mut [u64],
 ) -> u64 {
-    match map::unprotected_map(links, parents, Search { root, depth }, words) {
+    match map::unprotected_map(links, parents, nearer(root, depth), words) {
         MapAnswer::Is(told) => both(told.count as u64, told.lowest as u64),
         MapAnswer::Not(refusal) => refused(refusal),
     }
@@ -503,14 +513,7 @@ pub extern "C" fn painted_forward_fill(
         failed,
         measure: Measure::Max,
     };
-    match forward::fill(
-        links,
-        parents,
-        Search { root, depth },
-        ask,
-        ordinary,
-        detour,
-    ) {
+    match forward::fill(links, parents, nearer(root, depth), ask, ordinary, detour) {
         Applies::Ordinary(way) => both(way.nodes as u64, way.length),
         Applies::Detour(way) => both(way.nodes as u64, way.length),
         Applies::Neither(refusal) => refused(refusal),
@@ -538,7 +541,7 @@ pub extern "C" fn painted_forward(
     let part = forward::forward(
         links,
         parents,
-        Search { root, depth },
+        nearer(root, depth),
         ask,
         ordinary,
         detour,

@@ -22,7 +22,7 @@ headIn raw =
       room = longIn raw 4;
       ordinary = wordIn raw 4;
       detour = wordIn raw 5;
-      search = record { root = wordIn raw 6; depth = wordIn raw 7 };
+      search = record { root = wordIn raw 6; depth = wordIn raw 7; rule = wordIn raw 11 };
       a = wordIn raw 8;
       b = wordIn raw 9;
       c = wordIn raw 10;

@@ -48,6 +48,7 @@ fn head_of(raw: &[u8]) -> Head
     let search = Search {
         root: test_words::word(raw, 6),
         depth: test_words::word(raw, 7),
+        rule: test_words::word(raw, 11),
     };
     let high = test_words::word(raw, 4);
     let low = test_words::word(raw, 5);

@@ -1,7 +1,7 @@
 // The probe's own limits; what a case may lend stands in `probe_rows::limits`.
 
 // Words of a case's head.
-pub const HEAD: usize = 11;
+pub const HEAD: usize = 12;
 
 // Bytes of the buffer that what is printed waits in.
 pub const OUT: usize = 8192;

@@ -53,7 +53,7 @@ fn write_into(
         return output::flush(out, at);
     }
     rest::fill_bytes(file);
-    let said = archive::write(links, parents, search, &mut file[0..room]);
+    let said = archive::write(links, parents, search.aim(), &mut file[0..room]);
     put_written(said, &file[0..room], out, at)
 }
 

@@ -26,7 +26,7 @@ pub data Best (may : ℕ → Bool) (before : ℕ → ℕ → Bool) (k : ℕ) : F
   none : ((j : ℕ) → j < k → may j ≡ false) → Best may before k Nothing
   some : {b : ℕ} → IsBest may before k b → Best may before k (At b)
 
--- a test that orders: of two at most one comes first, and what is not before the second is not before a third that the second is not after
+-- a test that orders: of two at most one comes first, and what is not before the second is not before a third that the second is not before
 pub record Orders (before : ℕ → ℕ → Bool) : Type 0 where
   pub asym : (a b : ℕ) → before a b ≡ true → before b a ≡ false
   pub through : (a b c : ℕ) → before b a ≡ false → before c b ≡ false → before c a ≡ false

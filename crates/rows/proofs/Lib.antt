@@ -1,4 +1,5 @@
 pub mod Tests
+pub mod Ordering
 pub mod Best
 pub mod Seeking
 pub mod Refusing

@@ -1,5 +1,5 @@
 -- Which of the refusal numbers a check can give. Assumes nothing.
-use mathlib.Core.Path.{_≡_, refl, subst}
+use mathlib.Core.Path.{_≡_, refl, sym, subst}
 use mathlib.Core.Bool.{Bool, true, false}
 use mathlib.Core.List.{List, [], _∷_, _++_}
 use Prim.Native.Nat.{ℕ, zero, suc, _<_}
@@ -22,6 +22,10 @@ Gives ns Taken = Unit {0}
 Gives ns (Refused r) = has (numberOf (r .why)) ns ≡ true
 
 module _ (ns : List ℕ) where
+  pub taken-gives : (v : Verdict) → v ≡ Taken → Gives ns v
+  unfolding Gives
+  taken-gives v q = subst (Gives ns) (sym q) tt
+
   pub if-gives : (b : Bool) (why : Why) (place : ℕ) → has (numberOf why) ns ≡ true → Gives ns (refuseIf b why place)
   unfolding refuseIf Gives
   if-gives true why place h = h

@@ -1,8 +1,8 @@
--- Lists of numbers: what is in one, a list up to one of its numbers, what two share first. Assumes nothing.
+-- Lists of numbers: what is in one, a list up to one of its numbers, what two share first, which of two comes first. Assumes nothing.
 use mathlib.Core.Bool.{Bool, true, false, cond, not, _&&_, _||_, Bool·beq}
 use mathlib.Core.List.{List, [], _∷_}
 use Prim.Native.Nat.{ℕ, _+_}
-use lib.Dec.{eqb}
+use lib.Dec.{eqb, ltb}
 use Rattle.edition.specs.Limits.{noNode}
 
 -- Is c in the list?
@@ -31,6 +31,14 @@ same [] [] = true
 same [] (y ∷ ys) = false
 same (x ∷ xs) [] = false
 same (x ∷ xs) (y ∷ ys) = eqb x y && same xs ys
+
+-- Does a list come before another: has it the lower number where they first differ? One that is the beginning of a longer one comes
+-- before it.
+unfoldable pub sooner : List ℕ → List ℕ → Bool
+sooner [] [] = false
+sooner [] (y ∷ ys) = true
+sooner (x ∷ xs) [] = false
+sooner (x ∷ xs) (y ∷ ys) = ltb x y || (eqb x y && sooner xs ys)
 
 -- Does exactly one of two hold?
 abbrev pub differ : Bool → Bool → Bool

@@ -1,7 +1,7 @@
 // For comparing: works out the table of the network on standard input once, makes one change after the other on the same rows
 // of links and entries, and prints after each change a line that every number of both rows goes into.
 //
-// The input is 16-bit words, the high byte first: n, m, root, depth and the number of changes; n parents; m records of links;
+// The input is 16-bit words, the high byte first: n, m, root, depth, the number of changes and the tie rule; n parents; m records of links;
 // for each change its link, mark and length. One that is not a whole series within the limits prints `refused`, one whose table
 // is refused `refused N P`. A change that is taken prints `ok S`, a refused one `refused N P S`: S is the mix of all of the
 // links and then all of the entries, the room past the table among them.
@@ -151,7 +151,7 @@ fn worked(
     search: Search,
     entries: &mut [u64],
 )
-    requires { ⌜ 2 * (5 + length (now parents) + length (now links) + 3 * count) ≤ length (now raw) ⌝ }
+    requires { ⌜ 2 * (6 + length (now parents) + length (now links) + 3 * count) ≤ length (now raw) ⌝ }
 {
     test_words::decode(&raw[2 * HEAD..], parents);
     test_words::decode(&raw[2 * (HEAD + parents.len())..], links);

@@ -7,21 +7,22 @@ use Rattle.edition.specs.declared.Limits.{Limits}
 use Rattle.edition.specs.declared.Search.{Search}
 use Rattle.edition.specs.declared.Verdict.{Verdict}
 use Rattle.edition.specs.declared.Verdict.the-variants.{Taken}
-use Rattle.edition.specs.declared.Why.the-variants.{NodeCount, LinkCount, BadRoot, BadDepth, BadEnds, BadMark, BadParent, NoRoute, NotShort}
+use Rattle.edition.specs.declared.Why.the-variants.{NodeCount, LinkCount, BadRoot, BadDepth, BadRule, BadEnds, BadMark, BadParent, NoRoute, NotShort}
 use Rattle.edition.specs.Limits.{memoryLimits}
 use Rattle.rows.proofs.Refusing.{head-taken, rest-taken, both-taken, none-left, if-taken, if-passes, at-taken, at-passes}
 use Rattle.network.specs.Network.{Net}
-use Rattle.network.specs.Records.{badNodes, badLinks, badRoot, badDepth, sizeVerdict, badEnds, badMark, badParent}
+use Rattle.network.specs.Records.{badNodes, badLinks, badRoot, badDepth, badRule, sizeVerdict, badEnds, badMark, badParent}
 use Rattle.tree.specs.Tree.{treeOf, hasRoute}
 use Rattle.tree.proofs.Ways.{Home}
 use Rattle.sound.specs.Sound.{noRoute, notShort, recordVerdict, netVerdict}
 
--- what checks 1 to 4 leave
+-- what checks 1 to 4 and 14 leave
 pub record Sized (g : Net) : Type 0 where
   pub nodes-ok : badNodes memoryLimits (g .nodes) ≡ false
   pub links-ok : badLinks memoryLimits (g .links) ≡ false
   pub root-ok : badRoot (g .nodes) (g .search .root) ≡ false
   pub depth-ok : badDepth memoryLimits (g .search .depth) ≡ false
+  pub rule-ok : badRule (g .search .rule) ≡ false
 
 -- what checks 5 to 9 leave
 pub record Recorded (g : Net) : Type 0 where
@@ -50,11 +51,13 @@ sizes-say g t1 =
     let t2 = rest-taken _ _ t1 in
     let t3 = rest-taken _ _ t2 in
     let t4 = rest-taken _ _ t3 in
+    let t14 = rest-taken _ _ t4 in
     record {
       nodes-ok = if-taken _ NodeCount 0 (head-taken _ _ t1);
       links-ok = if-taken _ LinkCount 0 (head-taken _ _ t2);
       root-ok = if-taken _ BadRoot 0 (head-taken _ _ t3);
       depth-ok = if-taken _ BadDepth 0 (head-taken _ _ t4);
+      rule-ok = if-taken _ BadRule 0 (head-taken _ _ t14);
     }
 
 -- of numbers: 1 and 3 are among what is taken
@@ -96,7 +99,8 @@ sizes-taken g s =
     both-taken _ _ (if-passes _ NodeCount 0 (s .nodes-ok))
     (both-taken _ _ (if-passes _ LinkCount 0 (s .links-ok))
     (both-taken _ _ (if-passes _ BadRoot 0 (s .root-ok))
-    (both-taken _ _ (if-passes _ BadDepth 0 (s .depth-ok)) none-left)))
+    (both-taken _ _ (if-passes _ BadDepth 0 (s .depth-ok))
+    (both-taken _ _ (if-passes _ BadRule 0 (s .rule-ok)) none-left))))
 
 records-taken : (g : Net) → Recorded g → recordVerdict g ≡ Taken
 unfolding recordVerdict

@@ -1,4 +1,4 @@
--- The check of a network and its tree: refusals 8 and 9, and 1 to 9 in their order. Assumes nothing.
+-- The check of a network and its tree: refusals 8 and 9, and 1 to 9 with 14 in their order. Assumes nothing.
 use mathlib.Core.Bool.{Bool, not, _&&_}
 use mathlib.Core.List.{[], _∷_}
 use Prim.Native.Nat.{ℕ, _+_}
@@ -42,7 +42,7 @@ recordVerdict g =
     refuseAt (noRoute g) (g .nodes) NoRoute ∷
     refuseAt (notShort g) (g .links) NotShort ∷ [])
 
--- The order for a network: 1 to 9.
+-- The order for a network: 1 to 4, 14, 5 to 9.
 unfoldable pub netVerdict : Net → Verdict
 netVerdict g = firstly (sizeVerdict memoryLimits (g .nodes) (g .links) (g .search) ∷ recordVerdict g ∷ [])
 

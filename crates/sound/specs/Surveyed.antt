@@ -17,7 +17,7 @@ use Rattle.survey.specs.Known.{known}
 use Rattle.survey.specs.Row.{nodesIn, knownRow, knownAt, pastKnown}
 use Rattle.sound.specs.Sound.{noRoute, netVerdict}
 
--- 1 to 7.
+-- 1 to 4, 14, 5 to 7.
 unfoldable pub plainVerdict : Net → Verdict
 plainVerdict g =
     firstly
@@ -30,7 +30,7 @@ plainVerdict g =
 unfoldable pub narrow : List ℕ → Verdict
 narrow row = refuseIf (ltb (nodesIn row) nodeLimit) NoRoom 0
 
--- That 10, then 1 to 9.
+-- That 10, then 1 to 4, 14, 5 to 9.
 unfoldable pub soundVerdict : Net → List ℕ → Verdict
 soundVerdict g row = firstly (narrow row ∷ netVerdict g ∷ [])
 
@@ -38,7 +38,7 @@ soundVerdict g row = firstly (narrow row ∷ netVerdict g ∷ [])
 unfoldable pub surveyOf : Net → List ℕ → List ℕ
 surveyOf g row = rowsTo (λ x. knownRow (known (treeOf g) x)) (g .nodes) ++ pastKnown (g .nodes) row
 
--- What the lent row then holds: the survey where that 10 and 1 to 8 refuse nothing, so where 9 refuses too; else what it held.
+-- What the lent row then holds: the survey where that 10, 1 to 8 and 14 refuse nothing, so where 9 refuses too; else what it held.
 unfoldable pub soundRow : Net → List ℕ → List ℕ
 soundRow g row =
     ifTaken (firstly (narrow row ∷ plainVerdict g ∷ refuseAt (noRoute g) (g .nodes) NoRoute ∷ [])) (surveyOf g row) row

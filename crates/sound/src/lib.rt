@@ -1,4 +1,4 @@
-// The check of a network and its tree: refusals 8 and 9, and 1 to 9 in their order.
+// The check of a network and its tree: refusals 8 and 9, and 1 to 9 with 14 in their order.
 ghost use mathlib.Core.Path.{_≡_};
 ghost use Prim.Native.Nat.{_<_, _≤_};
 ghost use Rattle.edition.specs.Limits.{nodeLimit};
@@ -81,7 +81,7 @@ fn check_tree(links: &[u16], parents: &[u16], search: Search) -> Verdict
     rows::refused_at(Why::NotShort, first_breaking(links, &row))
 }
 
-// Refusals 1 to 7, in their order.
+// Refusals 1 to 4, 14, 5 to 7, in this order.
 fn check_plain(links: &[u16], parents: &[u16], search: Search) -> Verdict
     ensures { λ r.
         let g = netOf (now (links .entry)) (now (parents .entry)) search in
@@ -107,7 +107,7 @@ fn check_plain(links: &[u16], parents: &[u16], search: Search) -> Verdict
     network::check_parents(links, parents, search)
 }
 
-// Refusals 1 to 9, in their order.
+// Refusals 1 to 4, 14, 5 to 9, in this order.
 fn verdict(links: &[u16], parents: &[u16], search: Search) -> Verdict
     ensures { λ r.
         let g = netOf (now (links .entry)) (now (parents .entry)) search in
@@ -120,7 +120,7 @@ fn verdict(links: &[u16], parents: &[u16], search: Search) -> Verdict
     check_tree(links, parents, search)
 }
 
-// The check of a network and its tree: sound, with its sizes, or the first refusal of 1 to 9.
+// The check of a network and its tree: sound, with its sizes, or the first refusal of 1 to 4, 14, 5 to 9.
 pub fn check_network(links: &[u16], parents: &[u16], search: Search) -> Checked
     ensures { λ r.
         let g = netOf (now (links .entry)) (now (parents .entry)) search in
@@ -192,7 +192,7 @@ fn survey_tree(links: &[u16], parents: &[u16], search: Search, survey: &mut [u64
     rows::refused_at(Why::NotShort, first_breaking_in(links, survey))
 }
 
-// The check of a network and its tree, 1 to 9, and in a lent row the survey of its nodes, which stands there where 1 to 8 refuse
+// The check of a network and its tree, and in a lent row the survey of its nodes, which stands there where 1 to 8 and 14 refuse
 // nothing. Before all of these 10, where the row holds fewer records than memory has nodes.
 pub fn survey_network(links: &[u16], parents: &[u16], search: Search, survey: &mut [u64]) -> Verdict
     ensures { λ r.

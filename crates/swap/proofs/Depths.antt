@@ -19,7 +19,7 @@ use Rattle.tree.specs.Tree.{treeOf, hops}
 use Rattle.tree.proofs.Bounded.{hops-few}
 use Rattle.sound.proofs.Sounds.{Sound}
 use Rattle.sound.proofs.Holding.{nodes-few, first-in, second-in, home, up-in}
-use Rattle.swap.specs.Swap.{innerEnd, crosses, within, candidate, costOf, before, best}
+use Rattle.swap.specs.Swap.{innerEnd, crosses, within, candidate, costOf, key, before, best}
 use Rattle.swap.specs.Entry.{crossed, hasCandidate, state, priced, swapOf, entry}
 use Rattle.swap.proofs.Choosing.{best-by}
 use Rattle.swap.proofs.Stating.{stateBelow, entry-root, entry-own, bridge-uncrossed, uncrossed-bridge}
@@ -33,7 +33,7 @@ atDepth g depth =
       links = g .links;
       link = g .link;
       parent = g .parent;
-      search = record { root = g .search .root; depth = depth };
+      search = record { root = g .search .root; depth = depth; rule = g .search .rule };
     }
 
 module _ (g : Net) (s : Sound g) (x : ℕ) (far : eqb x (g .search .root) ≡ false) where
@@ -62,7 +62,7 @@ module _ (g : Net) (s : Sound g) (x : ℕ) (far : eqb x (g .search .root) ≡ fa
   same-candidates e l = both-within e l (crosses (treeOf g) x e (g .link e)) refl
 
   same-best : (m : Measure) → best m (atDepth g depthLimit) x ≡ best m (atDepth g wholeSearch) x
-  unfolding before costOf atDepth treeOf
+  unfolding before key costOf atDepth treeOf
   same-best m =
       best-by m (atDepth g depthLimit) x
       ∙ (best-cong _ _ _ _ (g .links) same-candidates (λ i j l k p q. refl) ∙ sym (best-by m (atDepth g wholeSearch) x))

@@ -6,4 +6,5 @@ pub mod Bounding
 pub mod Folding
 pub mod Reaching
 pub mod Depths
+pub mod Rules
 pub mod Parallels

@@ -1,15 +1,16 @@
 -- Swap links of a node x and their costs, as SCOPE prints them. Assumes nothing.
 use mathlib.Core.Bool.{Bool, cond, not, _&&_, _||_}
+use mathlib.Core.List.{List, [], _∷_}
 use Prim.Native.Nat.{ℕ, _+_, _-_}
-use lib.Dec.{eqb, leb, ltb}
+use lib.Dec.{eqb, leb}
 use Rattle.edition.specs.declared.Found.{Found}
 use Rattle.edition.specs.declared.Measure.{Measure}
 use Rattle.edition.specs.declared.Measure.the-variants.{Sum, Incr, Max}
-use Rattle.edition.specs.Limits.{wholeSearch}
+use Rattle.edition.specs.Limits.{wholeSearch, nearerFirst}
 use Rattle.edition.specs.Entries.{firstEnd, secondEnd}
 use Rattle.rows.specs.Count.{sumTo, maxTo, someTo}
 use Rattle.rows.specs.First.{firstTo}
-use Rattle.rows.specs.Lists.{differ}
+use Rattle.rows.specs.Lists.{sooner, differ}
 use Rattle.network.specs.declared.Link.{Link}
 use Rattle.network.specs.Network.{Net, inService}
 use Rattle.tree.specs.Tree.{Tree, treeOf, dist, under, inside, hops, apart}
@@ -55,13 +56,19 @@ cost Max t x l = maxTo (inside t x (newDist t x l)) (t .size)
 unfoldable pub costOf : Measure → Net → ℕ → ℕ → ℕ
 costOf s g x e = cost s (treeOf g) x (g .link e)
 
--- Link e comes before link f: it costs x less, or as much and has the lower number.
-unfoldable pub before : Measure → Net → ℕ → ℕ → ℕ → Bool
-before s g x e f =
-    let a = costOf s g x e in
-    let b = costOf s g x f in
-    ltb a b || (eqb a b && ltb e f)
+-- What decides between candidates, in this order: the cost, under tie rule 1 the incr cost, the link number.
+unfoldable pub keyBy : ℕ → ℕ → ℕ → ℕ → List ℕ
+keyBy rule cost incr number = cond (eqb rule nearerFirst) (cost ∷ incr ∷ number ∷ []) (cost ∷ number ∷ [])
 
--- The best: the candidate of least cost, the lowest link number among equals. No candidate comes before it.
+-- The key of link e under a measure: what it costs x, what it costs x by incr, its number.
+unfoldable pub key : Measure → Net → ℕ → ℕ → List ℕ
+key s g x e = keyBy (g .search .rule) (costOf s g x e) (costOf Incr g x e) e
+
+-- Link e comes before link f: its key has the lower number where the two keys first differ.
+unfoldable pub before : Measure → Net → ℕ → ℕ → ℕ → Bool
+before s g x e f = sooner (key s g x e) (key s g x f)
+
+-- The best: the candidate of least cost; among equals, under tie rule 1, of least incr cost; then the lowest link number. No candidate
+-- comes before it.
 unfoldable pub best : Measure → Net → ℕ → Found
 best s g x = firstTo (λ e. candidate g x e && not (someTo (λ f. candidate g x f && before s g x f e) (g .links))) (g .links)

@@ -2,9 +2,9 @@
 use archive::WriteAnswer;
 use desk::Desk;
 use desk::Got;
+use edition::Aim;
 use edition::Edition;
 use edition::Memory;
-use edition::Search;
 use network::Link;
 use text::Cursor;
 use text::Line;
@@ -277,9 +277,9 @@ fn say_lack(name: &[u8], line: usize, told: Told) -> bool {
 }
 
 // Makes the file of the network, or says why it is refused.
-fn store(from: &[u8], to: &[u8], links: &[u16], parents: &[u16], search: Search) -> bool {
+fn store(from: &[u8], to: &[u8], links: &[u16], parents: &[u16], aim: Aim) -> bool {
     let mut file = [0u8; Desk::FILE];
-    match archive::write(links, parents, search, &mut file) {
+    match archive::write(links, parents, aim, &mut file) {
         WriteAnswer::Is(size) => desk::write_new(to, &file, size, b"", 0),
         WriteAnswer::Not(refusal) => desk::refused(from, refusal),
     }
@@ -301,12 +301,12 @@ fn finish(from: &[u8], to: &[u8], told: Told, links: &[u16], parents: &[u16]) ->
     if told.depth == Word::NONE {
         return desk::complain(from, b"expected a line `depth NUMBER` or `depth whole`");
     }
-    let search = Search {
+    let aim = Aim {
         root: told.root as u16,
         depth: depth_of(told.depth),
     };
     let held = network::first_links(links, told.links);
-    store(from, to, held, rows::first(parents, told.nodes), search)
+    store(from, to, held, rows::first(parents, told.nodes), aim)
 }
 
 // Takes the lines one after the other, and makes the file of what they told; says what the first lacks that lacks something.

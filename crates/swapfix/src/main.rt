@@ -178,7 +178,7 @@ fn store(
     waits: usize,
 ) -> bool {
     let mut file = [0u8; Desk::FILE];
-    match archive::write(links, parents, search, &mut file) {
+    match archive::write(links, parents, search.aim(), &mut file) {
         WriteAnswer::Is(size) => desk::write_new(to, &file, size, out, waits),
         WriteAnswer::Not(refusal) => desk::refused(to, refusal),
     }

@@ -28,13 +28,15 @@ use Rattle.swap.specs.Work.{through}
 use Rattle.swap.specs.Entry.{entry}
 use Rattle.swap.proofs.Costing.{crossing-splits, of-inner, of-outer}
 use Rattle.table.specs.declared.Costs.{Costs}
+use Rattle.table.specs.declared.Standing.{Standing}
 use Rattle.table.specs.declared.Side.{Side}
-use Rattle.table.specs.Prefix.{firstLinks, offered}
-use Rattle.table.specs.Work.{Starts, Started, Carries, Stepping, Stepped, Costing, Priced, Telling, Rising, Risen, Crossed, withinBy}
+use Rattle.table.specs.Prefix.{firstLinks, standingBy, offered}
+use Rattle.table.specs.Work.{Starts, Started, Carries, Stepping, Stepped, Costing, Priced, Telling, Rising, Risen, Crossed, incrBy, withinBy}
 use Rattle.table.proofs.Surveys.{fine, in-tree, homes, near-is, dist-few}
 use Rattle.table.proofs.Sides.{step-rises, step-few}
 use Rattle.table.proofs.Joining.{room-up}
 use Rattle.table.proofs.Prefixes.{entry-still, entry-start, entry-all}
+use Rattle.table.proofs.Nearness.{row-reads}
 use Rattle.table.proofs.Offering.{grown}
 use Rattle.table.proofs.Skipping.{first-node, second-node}
 
@@ -102,7 +104,11 @@ module _ {g : Net} {survey : List ℕ} (l : Link) (a : Starts g survey (l .first
       )
 
 -- a link that crosses
-module _ {g : Net} {search : Search} {survey : List ℕ} {x e : ℕ} {l : Link} {first : Bool} (h : Crossed g search survey x e l first) where
+module _ {g : Net} {search : Search} {links survey : List ℕ} {x e : ℕ} {l : Link} {first : Bool}
+    (h : Crossed g search links survey x e l first) where
+  pub own-starts : Starts g survey x
+  own-starts = record { surveyed = h .surveyed; low = h .low }
+
   pub first-starts : Starts g survey (l .first)
   first-starts =
       record {
@@ -170,11 +176,12 @@ module _ {g : Net} {search : Search} {survey : List ℕ} {x e : ℕ} {l : Link} 
           }
 
       pub carried :
-          {k : ℕ} {old new : Entry} {c : Costs} {near : Bool}
+          {k : ℕ} {old new : Entry} {standing : Standing} {c : Costs} {near : Bool}
           → k ≡ through (treeOf g) l → Priced g (r .climb .node) e c → near ≡ withinBy (search .depth) (r .climb .hops)
-          → new ≡ offered old near e (r .lower) c → old ≡ entry (firstLinks g e) x → new ≡ entry (firstLinks g (e + 1)) x
-      carried q p n w was =
-          w ∙ grown (costing q) (h .search-is) p n (rw (up .1) was) ∙ rw (up .1, add-one e)
+          → standing ≡ standingBy (search .rule) (incrBy g x) old c → new ≡ offered old standing near e (r .lower) c
+          → old ≡ entry (firstLinks g e) x → new ≡ entry (firstLinks g (e + 1)) x
+      carried q p n st w was =
+          w ∙ grown (costing q) (h .search-is) p n (st ∙ rw (up .1)) (rw (up .1) was) ∙ rw (up .1, add-one e)
 
 -- from no link to all
 module _ (links parents : List ℕ) (search : Search) where
@@ -225,12 +232,14 @@ module _ (links parents : List ℕ) (search : Search) where
           ((i : ℕ) → getD links i 0 ≤ longest)
           → s ≡ true → {p : ℕ} → p ≡ getD parents x noLink → (p ≡ e → ⊥)
           → {a b : Bool} → a ≡ under (treeOf g) x (l .first) → b ≡ under (treeOf g) x (l .second) → Bool·beq a b ≡ false
-          → Crossed g search survey x e l a
+          → Crossed g search links survey x e l a
       unfolding netOf
       crossed held on pq n aq bq d =
           record {
             surveyed = t .surveyed;
+            reads = row-reads links parents search (t .surveyed) held;
             search-is = refl;
+            low = t .low;
             there = there;
             link-is = sym lq;
             cross = crosses-is ∙ rw (on, ne-eqb e (getD parents x noLink) (λ q. n (pq ∙ sym q)), ← aq, ← bq, d);

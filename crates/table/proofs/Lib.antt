@@ -1,4 +1,5 @@
 pub mod Prefixes
+pub mod Nearness
 pub mod Surveys
 pub mod Slots
 pub mod Sides

@@ -160,8 +160,8 @@ module _ (t : Tree) (y : ℕ) (a : Side) (c : Carries t y a) where
   none-behind : Home t y → a .climb .node ≡ y → (v : ℕ) → behind t a v ≡ false
   none-behind h q v = rw (q, c .from-is, passed-none t y h v)
 
-module _ {g : Net} {search : Search} {asked survey ranks row : List ℕ} {e k : ℕ} {a b : Side}
-    (h : Climbing g search asked survey ranks row e k a b) where
+module _ {g : Net} {search : Search} {links asked survey ranks row : List ℕ} {e k : ℕ} {a b : Side}
+    (h : Climbing g search links asked survey ranks row e k a b) where
   sv : Surveyed g survey
   sv = h .searching .surveyed
 
@@ -310,8 +310,8 @@ module _ {g : Net} {survey asked : List ℕ} {e k : ℕ} {row₀ : List ℕ} whe
     stepping = record { surveyed = i .surveyed; carries = i .one; low = from-in i; below = eqb-false _ _ off-root }
 
     pub offering :
-        {search : Search} {ranks : List ℕ} {a₀ b₀ : Side}
-        → Climbing g search asked survey ranks row₀ e k a₀ b₀ → Offering g search asked survey ranks row e k a
+        {search : Search} {links ranks : List ℕ} {a₀ b₀ : Side}
+        → Climbing g search links asked survey ranks row₀ e k a₀ b₀ → Offering g search links asked survey ranks row e k a
     offering h =
         record {
           searching =
@@ -320,6 +320,7 @@ module _ {g : Net} {survey asked : List ℕ} {e k : ℕ} {row₀ : List ℕ} whe
                 ranked = h .searching .ranked;
                 room = omega (arith, i .size, h .searching .room);
               };
+          reads = h .reads;
           search-is = h .search-is;
           costing = record { stepping = stepping; crossing = crossing };
         }

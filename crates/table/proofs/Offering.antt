@@ -11,25 +11,29 @@ use borrow.Author.Tests.{eqb-true, eq-eqb, ne-eqb, le-ltb, lt-ltb, leb-true, ltb
 use Rattle.edition.specs.declared.Search.{Search}
 use Rattle.edition.specs.declared.Swap.{Swap}
 use Rattle.edition.specs.declared.Entry.{Entry}
-use Rattle.edition.specs.Limits.{nodeLimit, wholeSearch}
+use Rattle.edition.specs.declared.Measure.the-variants.{Incr}
+use Rattle.edition.specs.Limits.{nodeLimit, wholeSearch, nearerFirst}
 use Rattle.edition.specs.Entries.{swapState}
 use Rattle.entries.specs.Row.{entryRow, entriesIn, entryAt, putEntry}
-use Rattle.rows.proofs.Tests.{clash, and-none, not-so}
+use Rattle.rows.proofs.Tests.{clash, and-left, and-right, and-none, or-right, not-so}
 use Rattle.network.specs.Network.{Net}
 use Rattle.tree.specs.Tree.{treeOf, hops}
-use Rattle.swap.specs.Swap.{innerEnd, within}
+use Rattle.swap.specs.Swap.{innerEnd, within, candidate, costOf}
+use Rattle.swap.proofs.Stating.{candidate-crosses}
 use Rattle.swap.specs.Entry.{entry}
-use Rattle.table.specs.Prefix.{firstLinks, better, kept, offered, noBetter}
+use Rattle.table.specs.Prefix.{firstLinks, kept, tiedBy, standingBy, offered, settled, allSettled, noBetter, unbettered}
 use Rattle.table.specs.declared.Offer.{Offer}
 use Rattle.table.specs.declared.Costs.{Costs}
+use Rattle.table.specs.declared.Standing.{Standing}
 use Rattle.table.specs.declared.Side.{Side}
+use Rattle.table.specs.declared.Bid.{Bid}
 use Rattle.table.specs.Table.{isAsked}
-use Rattle.table.specs.Work.{Entries, rankStep, Costing, Offering, Priced, want, OfferedAt, Worth, withinBy}
-use Rattle.table.proofs.Prefixes.{entry-offered, links-low}
+use Rattle.table.specs.Work.{Entries, rankStep, Starts, Costing, Offering, Bidding, bidOf, standingIn, Priced, incrBy, want, OfferedAt, Worth, withinBy}
+use Rattle.table.proofs.Prefixes.{entry-offered, least-known}
 use Rattle.table.proofs.Slots.{entry-known, entries-put}
 use Rattle.survey.specs.Known.{count}
 use Rattle.table.proofs.Surveys.{size-is, in-tree, homes, small}
-use Rattle.table.proofs.Pricing.{x-low}
+use Rattle.table.proofs.Pricing.{incr-by, x-low}
 use Rattle.table.proofs.Ranks.{rank-parts, rank-own, rank-other}
 
 -- the same records, told otherwise
@@ -70,11 +74,25 @@ offered-still g n asked e x row stays =
     same before f w y true p = subst (λ (v : ℕ). f v ≡ want g asked before (suc e) v) (eqb-true x y p) w
     same before f w y false p = refl
 
--- a swap link that costs no more than a later one stays
-kept-old : (s : Swap) (o : Offer) → s .cost ≤ o .cost → s .link < o .link → kept true s o ≡ s
-unfolding kept better
-kept-old s o l m =
-    rw (le-ltb (o .cost) (s .cost) l, le-ltb (o .link) (s .link) (omega arith), and-none (eqb (o .cost) (s .cost)))
+-- a swap link stays that costs no more than a later one, nor more by incr where that decides
+kept-old : (s : Swap) (tied : ℕ) (o : Offer) → s .cost ≤ o .cost → tied ≤ o .incr → kept true tied s o ≡ s
+unfolding kept
+kept-old s tied o l m = rw (le-ltb (o .cost) (s .cost) l, le-ltb (o .incr) tied m)
+
+-- one that stays costs no more by incr, where that decides, than what nothing costs less than
+settled-nearest :
+    (rule : ℕ) (f : ℕ → ℕ) (s least : Swap) (cost incr : ℕ)
+    → (rule ≡ nearerFirst → settled s least cost ≡ true) → f (least .link) ≤ incr → tiedBy rule f s cost ≤ incr
+unfolding tiedBy settled
+settled-nearest rule f s least cost incr h l = go (eqb rule nearerFirst) refl (eqb cost (s .cost)) refl
+  where
+    go : (t : Bool) → eqb rule nearerFirst ≡ t → (v : Bool) → eqb cost (s .cost) ≡ v → tiedBy rule f s cost ≤ incr
+    go true r true q =
+        let same = eq-eqb (s .cost) cost (sym (eqb-true cost (s .cost) q)) in
+        let least-is : eqb (s .link) (least .link) ≡ true = rw same at (h (eqb-true rule nearerFirst r)) in
+        rw (r, q) (subst (λ (b : ℕ). f b ≤ incr) (sym (eqb-true (s .link) (least .link) least-is)) l)
+    go true r false q = rw (r, q) (omega arith)
+    go false r v q = rw r (omega arith)
 
 -- what the test says, by the costs in turn
 module _ (old : Entry) (c : Costs) where
@@ -100,12 +118,14 @@ all-four true true false d h = clash h refl
 all-four true false c d h = clash h refl
 all-four false b c d h = clash h refl
 
--- an entry that one more link makes no better
-module _ (old : Entry) (c : Costs) (h : noBetter old c ≡ true) where
+-- an entry that one more link leaves as it is; f says of a link what it costs by incr
+module _ (rule : ℕ) (old : Entry) (c : Costs) (h : unbettered rule old c ≡ true) where
   parts : (eqb (old .state) swapState ≡ true) × (old .sum .cost ≤ c .sum) × (old .incr .cost ≤ c .incr) × (old .max .cost ≤ c .max)
-  unfolding noBetter
+  unfolding unbettered noBetter
   parts =
-      let z = all-four (eqb (old .state) swapState) (not (ltb (c .sum) (old .sum .cost))) (not (ltb (c .incr) (old .incr .cost))) _ h in (
+      let z =
+      all-four (eqb (old .state) swapState) (not (ltb (c .sum) (old .sum .cost))) (not (ltb (c .incr) (old .incr .cost))) _
+      (and-left (noBetter old c) _ h) in (
         z .0,
         ltb-false (c .sum) (old .sum .cost) (not-true _ (z .1)),
         ltb-false (c .incr) (old .incr .cost) (not-true _ (z .2)),
@@ -115,21 +135,41 @@ module _ (old : Entry) (c : Costs) (h : noBetter old c ≡ true) where
   pub has-swap : eqb (old .state) swapState ≡ true
   has-swap = parts .0
 
-  pub stays-old :
-      (e lower : ℕ) → (old .sum .link < e) × (old .incr .link < e) × (old .max .link < e) → (b : Bool)
-      → offered old b e lower c ≡ old
-  unfolding offered
-  stays-old e lower low true =
-      rw has-swap
-      (λ i. record {
-        state = sym (eqb-true (old .state) swapState has-swap) i;
-        sum = kept-old (old .sum) (record { link = e; cost = c .sum; incr = c .incr; lower = lower }) (parts .1) (low .0) i;
-        incr = kept-old (old .incr) (record { link = e; cost = c .incr; incr = c .incr; lower = lower }) (parts .2) (low .1) i;
-        max = kept-old (old .max) (record { link = e; cost = c .max; incr = c .incr; lower = lower }) (parts .3) (low .2) i;
-      })
-  stays-old e lower low false =
-      rw has-swap
-      (λ i. record { state = sym (eqb-true (old .state) swapState has-swap) i; sum = old .sum; incr = old .incr; max = old .max })
+  both-settled : rule ≡ nearerFirst → allSettled old c ≡ true
+  unfolding unbettered
+  both-settled r =
+      let z : (not (eqb rule nearerFirst) || allSettled old c) ≡ true = and-right (noBetter old c) _ h in
+      rw (eq-eqb rule nearerFirst r) at z
+
+  sum-settled : rule ≡ nearerFirst → settled (old .sum) (old .incr) (c .sum) ≡ true
+  unfolding allSettled
+  sum-settled r = and-left _ _ (both-settled r)
+
+  max-settled : rule ≡ nearerFirst → settled (old .max) (old .incr) (c .max) ≡ true
+  unfolding allSettled
+  max-settled r = and-right (settled (old .sum) (old .incr) (c .sum)) _ (both-settled r)
+
+  module _ (f : ℕ → ℕ) (least : f (old .incr .link) ≡ old .incr .cost) where
+    least-less : f (old .incr .link) ≤ c .incr
+    least-less = omega (arith, least, parts .2)
+
+    pub stays-old : (e lower : ℕ) (b : Bool) → offered old (standingBy rule f old c) b e lower c ≡ old
+    unfolding offered standingBy
+    stays-old e lower true =
+        rw has-swap
+        (λ i. record {
+          state = sym (eqb-true (old .state) swapState has-swap) i;
+          sum =
+              kept-old (old .sum) (tiedBy rule f (old .sum) (c .sum)) (record { link = e; cost = c .sum; incr = c .incr; lower = lower })
+              (parts .1) (settled-nearest rule f (old .sum) (old .incr) (c .sum) (c .incr) sum-settled least-less) i;
+          incr = kept-old (old .incr) 0 (record { link = e; cost = c .incr; incr = c .incr; lower = lower }) (parts .2) (omega arith) i;
+          max =
+              kept-old (old .max) (tiedBy rule f (old .max) (c .max)) (record { link = e; cost = c .max; incr = c .incr; lower = lower })
+              (parts .3) (settled-nearest rule f (old .max) (old .incr) (c .max) (c .incr) max-settled least-less) i;
+        })
+    stays-old e lower false =
+        rw has-swap
+        (λ i. record { state = sym (eqb-true (old .state) swapState has-swap) i; sum = old .sum; incr = old .incr; max = old .max })
 
 -- the entry of one more link, which crosses
 module _ {g : Net} {search : Search} {survey : List ℕ} {e k : ℕ} {s : Side} (h : Costing g survey e k s) (same : g .search ≡ search) where
@@ -147,20 +187,35 @@ module _ {g : Net} {search : Search} {survey : List ℕ} {e k : ℕ} {s : Side} 
       ∙ ap (λ (j : ℕ). eqb (g .search .depth) wholeSearch || leb j (g .search .depth))
       (h .stepping .carries .along .hops-is ∙ ap (hops (treeOf g) (s .climb .node)) (sym (h .crossing .low)))
 
+  -- what a candidate costs by incr
+  pub known : (b : ℕ) → b < e → candidate g (s .climb .node) b ≡ true → incrBy g (s .climb .node) b ≡ costOf Incr g (s .climb .node) b
+  known b l c =
+      incr-by (h .stepping .surveyed) (s .climb .node) b (x-low h) (omega (arith, l, h .crossing .there)) (candidate-crosses g (s .climb .node) b c)
+
   pub grown :
-      {old : Entry} {v : Costs} {b : Bool}
-      → Priced g (s .climb .node) e v → b ≡ withinBy (search .depth) (s .climb .hops) → old ≡ entry (firstLinks g e) (s .climb .node)
-      → offered old b e (s .lower) v ≡ entry (firstLinks g (suc e)) (s .climb .node)
-  grown {old} {v} {b} r q was =
-      ap (λ (o : Entry). offered o b e (s .lower) v) was ∙
-      sym
-      (entry-offered g (s .climb .node) off e (h .crossing .cross) b (near-is b q) v (r .sum-is) (r .incr-is) (r .max-is) (s .lower)
+      {old : Entry} {standing : Standing} {v : Costs} {b : Bool}
+      → Priced g (s .climb .node) e v → b ≡ withinBy (search .depth) (s .climb .hops)
+      → standing ≡ standingBy (search .rule) (incrBy g (s .climb .node)) old v → old ≡ entry (firstLinks g e) (s .climb .node)
+      → offered old standing b e (s .lower) v ≡ entry (firstLinks g (suc e)) (s .climb .node)
+  grown {old} {standing} {v} {b} r q st was =
+      let x = s .climb .node in
+      ap (λ (z : Standing). offered old z b e (s .lower) v) st
+      ∙ ap (λ (o : Entry). offered o (standingBy (search .rule) (incrBy g x) o v) b e (s .lower) v) was
+      ∙ ap
+      (λ (z : Search). offered (entry (firstLinks g e) x)
+      (standingBy (z .rule) (incrBy g x) (entry (firstLinks g e) x) v) b e (s .lower) v)
+      (sym same)
+      ∙ sym
+      (entry-offered g x off e (incrBy g x) known (h .crossing .cross) b (near-is b q) v (r .sum-is) (r .incr-is) (r .max-is) (s .lower)
       (sym (h .crossing .marked)))
 
-module _ {g : Net} {search : Search} {asked survey ranks row : List ℕ} {e k : ℕ} {s : Side}
-    (h : Offering g search asked survey ranks row e k s) where
+module _ {g : Net} {search : Search} {links asked survey ranks row : List ℕ} {e k : ℕ} {s : Side}
+    (h : Offering g search links asked survey ranks row e k s) where
   pub low : s .climb .node < g .nodes
   low = x-low (h .costing)
+
+  pub starts : Starts g survey (s .climb .node)
+  starts = record { surveyed = h .searching .surveyed; low = low }
 
   pub has-rank : s .climb .node < length ranks
   has-rank = omega (arith, low, h .searching .ranked .room, size-is (h .searching .surveyed))
@@ -212,32 +267,48 @@ module _ {g : Net} {search : Search} {asked survey ranks row : List ℕ} {e k : 
     was before f i w =
         p ∙ entry-known _ f before row (s .climb .node) (entry (firstLinks g e) (s .climb .node)) i low (w ∙ want-marked g asked before e (s .climb .node) on)
 
-    -- and which one more link makes no better
-    offered-kept : noBetter old v ≡ true → OfferedAt g (g .nodes) asked e (s .climb .node) row row
+    -- and which one more link leaves
+    offered-kept : unbettered (search .rule) old v ≡ true → OfferedAt g (g .nodes) asked e (s .climb .node) row row
     offered-kept n =
         offered-still g (g .nodes) asked e (s .climb .node) row
         (λ before f i w.
+        let x = s .climb .node in
         let is = was before f i w in
-        let links =
-        links-low g (s .climb .node) (off (h .costing) (h .search-is)) e
-        (subst (λ (o : Entry). eqb (o .state) swapState ≡ true) is (has-swap old v n)) in
-        let stays = stays-old old v n e (s .lower) (subst (λ (o : Entry). (o .sum .link < e) × (o .incr .link < e) × (o .max .link < e)) (sym is) links) _ in
-        w ∙ want-marked g asked before e (s .climb .node) on ∙ ap entryRow (sym is ∙ sym stays ∙ grown (h .costing) (h .search-is) r refl is)
-        ∙ sym (want-marked g asked before (suc e) (s .climb .node) on))
+        let top = off (h .costing) (h .search-is) in
+        let swap = subst (λ (o : Entry). eqb (o .state) swapState ≡ true) is (has-swap (search .rule) old v n) in
+        let least =
+        subst (λ (o : Entry). incrBy g x (o .incr .link) ≡ o .incr .cost) (sym is)
+        (least-known g x (incrBy g x) e (known (h .costing) (h .search-is)) top swap) in
+        let stays = stays-old (search .rule) old v n (incrBy g x) least e (s .lower) _ in
+        w ∙ want-marked g asked before e x on ∙ ap entryRow (sym is ∙ sym stays ∙ grown (h .costing) (h .search-is) r refl refl is)
+        ∙ sym (want-marked g asked before (suc e) x on))
 
-    -- what the test says of it
-    pub worth-so : {b : Bool} → b ≡ noBetter old v → Worth g (g .nodes) asked e (s .climb .node) row (not b)
-    worth-so {b} q = record { yes = λ z. on; no = λ z. offered-kept (sym q ∙ not-false b z) }
+    -- what the tests say of it
+    pub worth-lower : noBetter old v ≡ false → Worth g (g .nodes) asked e (s .climb .node) row true
+    worth-lower q = record { yes = λ z. on; no = λ z. clash refl z }
 
-    pub offered-one :
-        {b : Bool} {new : Entry} {row′ : List ℕ}
-        → b ≡ withinBy (search .depth) (s .climb .hops) → new ≡ offered old b e (s .lower) v
+    pub worth-not : noBetter old v ≡ true → (search .rule ≡ nearerFirst → ⊥) → Worth g (g .nodes) asked e (s .climb .node) row false
+    unfolding unbettered
+    worth-not q n = record { yes = λ z. on; no = λ z. offered-kept (rw (q, ne-eqb (search .rule) nearerFirst n)) }
+
+    pub worth-tied : noBetter old v ≡ true → {b : Bool} → b ≡ allSettled old v → Worth g (g .nodes) asked e (s .climb .node) row (not b)
+    unfolding unbettered
+    worth-tied q {b} t =
+        record {
+          yes = λ z. on;
+          no = λ z. offered-kept (rw (q, sym t ∙ not-false b z) (or-right (not (eqb (search .rule) nearerFirst)) true refl));
+        }
+
+    offered-one :
+        {b : Bool} {standing : Standing} {new : Entry} {row′ : List ℕ}
+        → b ≡ withinBy (search .depth) (s .climb .hops) → standing ≡ standingBy (search .rule) (incrBy g (s .climb .node)) old v
+        → new ≡ offered old standing b e (s .lower) v
         → row′ ≡ putEntry row (s .climb .node) new → OfferedAt g (g .nodes) asked e (s .climb .node) row row′
-    offered-one {b} {new} {row′} bq w u =
+    offered-one {b} {standing} {new} {row′} bq st w u =
         record {
           goes-on =
               λ before f i z.
-              let new-is = w ∙ grown (h .costing) (h .search-is) r bq (was before f i z) in
+              let new-is = w ∙ grown (h .costing) (h .search-is) r bq st (was before f i z) in
               rw u
               (entries-same _ _ _ before _ (λ y l. told before f new-is y (eqb (s .climb .node) y) refl)
               (entries-put _ f before row (s .climb .node) new i low (omega (arith, i .size, h .searching .room))));
@@ -251,3 +322,56 @@ module _ {g : Net} {search : Search} {asked survey ranks row : List ℕ} {e k : 
             subst (λ (j : ℕ). entryRow new ≡ want g asked before (suc e) j) (eqb-true (s .climb .node) y d)
             (ap entryRow a ∙ sym (want-marked g asked before (suc e) (s .climb .node) on))
         told before f a y false d = refl
+
+-- what the code hands on
+pub bidding :
+    {g : Net} {search : Search} {links asked survey ranks row : List ℕ} {e k : ℕ} {s : Side} {c : Costs} {bid : Bid}
+    → Offering g search links asked survey ranks row e k s → Priced g (s .climb .node) e c → isAsked asked (s .climb .node) ≡ true
+    → bid ≡ bidOf s c → Bidding g search links asked survey ranks row e k s bid
+unfolding bidOf
+bidding {g} {e = e} {s = s} h p on q =
+    let costs-are = ap (λ (b : Bid). b .costs) q in
+    record {
+      offering = h;
+      priced = subst (Priced g (s .climb .node) e) (sym costs-are) p;
+      on = on;
+      is = q ∙ ap (bidOf s) (sym costs-are);
+    }
+
+-- what is offered, as the code has it
+module _ {g : Net} {search : Search} {links asked survey ranks row : List ℕ} {e k : ℕ} {s : Side} {bid : Bid}
+    (h : Bidding g search links asked survey ranks row e k s bid) where
+  node-is : bid .node ≡ s .climb .node
+  unfolding bidOf
+  node-is = ap (λ (b : Bid). b .node) (h .is)
+
+  hops-are : bid .hops ≡ s .climb .hops
+  unfolding bidOf
+  hops-are = ap (λ (b : Bid). b .hops) (h .is)
+
+  lower-is : bid .lower ≡ s .lower
+  unfolding bidOf
+  lower-is = ap (λ (b : Bid). b .lower) (h .is)
+
+  pub bid-there : bid .node < entriesIn row
+  bid-there = rw node-is (has-entry (h .offering))
+
+  pub bid-starts : Starts g survey (bid .node)
+  bid-starts = rw node-is (starts (h .offering))
+
+  pub offered-bid :
+      {old : Entry} {b : Bool} {standing : Standing} {new : Entry} {row′ : List ℕ}
+      → old ≡ entryAt row (bid .node) → b ≡ withinBy (search .depth) (bid .hops) → standing ≡ standingIn g search row bid
+      → new ≡ offered old standing b e (bid .lower) (bid .costs) → row′ ≡ putEntry row (bid .node) new
+      → OfferedAt g (g .nodes) asked e (s .climb .node) row row′
+  unfolding standingIn
+  offered-bid {old} p q t w u =
+      let told = t ∙ ap (λ (o : Entry). standingBy (search .rule) (incrBy g (bid .node)) o (bid .costs)) (sym p) in
+      offered-one (h .offering) (h .on) (rw node-is at p) (h .priced) (rw hops-are at q) (rw node-is at told) (rw lower-is at w) (rw node-is at u)
+
+  pub standing-bid :
+      {old : Entry} {standing : Standing}
+      → old ≡ entryAt row (bid .node) → standing ≡ standingBy (search .rule) (incrBy g (bid .node)) old (bid .costs)
+      → standing ≡ standingIn g search row bid
+  unfolding standingIn
+  standing-bid p t = t ∙ ap (λ (o : Entry). standingBy (search .rule) (incrBy g (bid .node)) o (bid .costs)) p

@@ -1,28 +1,33 @@
 -- What one more link does to an entry: nothing where it does not cross, else what `offered` says. Assumes nothing.
-use mathlib.Core.Path.{_≡_, refl, sym, ap, _∙_}
-use mathlib.Core.Bool.{Bool, true, false, cond}
+use mathlib.Core.Path.{_≡_, refl, sym, subst, ap, _∙_}
+use mathlib.Core.Bool.{Bool, true, false, cond, _&&_, _||_}
+use mathlib.Core.List.{[], _∷_}
 use Prim.Native.Nat.{ℕ, suc, _<_}
-use lib.Dec.{eqb}
+use native.Mathlib.Omega.{arith}
+use lib.Dec.{eqb, ltb}
+use borrow.Author.Tests.{eqb-true, eqb-false, eq-eqb, ne-eqb, le-ltb}
 use Rattle.edition.specs.declared.Found.{Found}
 use Rattle.edition.specs.declared.Found.the-variants.{Nothing, At}
 use Rattle.edition.specs.declared.Measure.{Measure}
 use Rattle.edition.specs.declared.Measure.the-variants.{Sum, Incr, Max}
-use Rattle.edition.specs.declared.Swap.{Swap}
+use Rattle.edition.specs.Limits.{nearerFirst}
 use Rattle.edition.specs.declared.Entry.{Entry}
 use Rattle.edition.specs.Entries.{rootState, swapState, noneState, bridgeState, blank}
 use Rattle.rows.specs.Count.{someTo}
+use Rattle.rows.specs.Lists.{sooner}
 use Rattle.rows.specs.Work.{beats, bestTo}
-use Rattle.rows.proofs.Tests.{clash, or-right, or-none}
+use Rattle.rows.proofs.Tests.{clash, or-right, or-none, and-none}
 use Rattle.rows.proofs.Best.{isAt, some-found, Stands, nobody, somebody, stands}
 use Rattle.network.specs.Network.{Net}
 use Rattle.tree.specs.Tree.{treeOf}
 use Rattle.table.specs.declared.Offer.{Offer}
 use Rattle.table.specs.declared.Costs.{Costs}
-use Rattle.swap.specs.Swap.{innerEnd, lowerMark, crosses, within, candidate, costOf, before, best}
+use Rattle.table.specs.declared.Standing.{Standing}
+use Rattle.swap.specs.Swap.{innerEnd, lowerMark, crosses, within, candidate, costOf, keyBy, key, before, best}
 use Rattle.swap.specs.Entry.{crossed, hasCandidate, priced, swapOf, entry}
 use Rattle.swap.proofs.Choosing.{best-by}
 use Rattle.swap.proofs.Stating.{stateBelow, entry-root, entry-own}
-use Rattle.table.specs.Prefix.{firstLinks, better, asOffer, kept, offered}
+use Rattle.table.specs.Prefix.{firstLinks, asSwap, kept, tiedBy, standingBy, offered}
 
 module _ (g : Net) (x : ℕ) where
   -- the best of the first k links
@@ -30,7 +35,7 @@ module _ (g : Net) (x : ℕ) where
   bestOf s k = bestTo (candidate g x) (before s g x) k
 
   best-of : (s : Measure) (k : ℕ) → best s (firstLinks g k) x ≡ bestOf s k
-  unfolding bestOf firstLinks candidate before costOf treeOf
+  unfolding bestOf firstLinks candidate before key costOf treeOf
   best-of s k = best-by s (firstLinks g k) x
 
   swap-of : (s : Measure) (k : ℕ) → swapOf s (firstLinks g k) x ≡ priced s g x (bestOf s k)
@@ -121,53 +126,149 @@ module _ (g : Net) (x : ℕ) where
     -- a link that crosses too deep
     deeper :
         crosses (treeOf g) x l (g .link l) ≡ true
-        → candidate g x l ≡ false → (c : Costs) (lower : ℕ) → entryOf (suc l) ≡ offered (entryOf l) false l lower c
+        → candidate g x l ≡ false → (standing : Standing) (c : Costs) (lower : ℕ)
+        → entryOf (suc l) ≡ offered (entryOf l) standing false l lower c
     unfolding offered entryOf
-    deeper c n k lower = rw (best-same Sum n, best-same Incr n, best-same Max n, had-one l, deeper-state c n)
+    deeper c n standing k lower = rw (best-same Sum n, best-same Incr n, best-same Max n, had-one l, deeper-state c n)
 
-    -- a candidate
-    swap-kept :
-        (s : Measure)
-        → candidate g x l ≡ true → (o : Offer) → o .link ≡ l → o .cost ≡ costOf s g x l → o .lower ≡ lowerMark (treeOf g) x (g .link l)
-        → priced s g x (bestOf s (suc l)) ≡ kept (savedOf l) (priced s g x (bestOf s l)) o
-    unfolding bestOf bestTo savedOf beats priced kept before better
-    swap-kept s c o p q m =
-        rw (c, some-found (candidate g x) (before s g x) l) (one (bestTo (candidate g x) (before s g x) l))
+    -- a candidate o, which is link l: where the test by i says whether it comes before what stands, what is kept is the best
+    module _ (s : Measure) (c : candidate g x l ≡ true) (o : Offer) (p : o .link ≡ l) (q : o .cost ≡ costOf s g x l)
+        (m : o .lower ≡ lowerMark (treeOf g) x (g .link l)) (i : ℕ) where
+      Told : Found → Type 0
+      Told f = (b : ℕ) → f ≡ At b → (ltb (o .cost) (costOf s g x b) || ltb (o .incr) i) ≡ before s g x l b
+
+      is-new : priced s g x (At l) ≡ asSwap o
+      unfolding priced
+      is-new = λ j. record { link = sym p j; cost = sym q j; lower = sym m j }
+
+      two :
+          (b : ℕ) → Told (At b) → (t : Bool) → before s g x l b ≡ t
+          → priced s g x (cond (before s g x l b) (At l) (At b)) ≡ kept true i (priced s g x (At b)) o
+      unfolding kept priced Told
+      two b told true e = rw (e, told b refl ∙ e) is-new
+      two b told false e = rw (e, told b refl ∙ e)
+
+      one : (f : Found) → Told f → priced s g x (cond (beats (before s g x) l f) (At l) f) ≡ kept (isAt f) i (priced s g x f) o
+      unfolding beats kept
+      one Nothing told = is-new
+      one (At b) told = two b told (before s g x l b) refl
+
+      swap-kept : Told (bestOf s l) → priced s g x (bestOf s (suc l)) ≡ kept (savedOf l) i (priced s g x (bestOf s l)) o
+      unfolding bestOf bestTo savedOf
+      swap-kept told = rw (c, some-found (candidate g x) (before s g x) l) (one (bestTo (candidate g x) (before s g x) l) told)
+
+    -- a later link of equal cost comes before only where the rule asks and it costs less by incr; of two costs the lower decides
+    module _ (s : Measure) (b : ℕ) (late : b < l) where
+      last-not : sooner (l ∷ []) (b ∷ []) ≡ false
+      unfolding sooner
+      last-not = rw (le-ltb l b (omega (arith, late)), and-none (eqb l b))
+
+      by-cost : (costOf s g x l ≡ costOf s g x b → ⊥) → before s g x l b ≡ ltb (costOf s g x l) (costOf s g x b)
+      unfolding before key keyBy sooner
+      by-cost n = go (eqb (g .search .rule) nearerFirst) refl
+        where
+          go : (t : Bool) → eqb (g .search .rule) nearerFirst ≡ t → before s g x l b ≡ ltb (costOf s g x l) (costOf s g x b)
+          go true e = rw (e, ne-eqb (costOf s g x l) (costOf s g x b) n, or-none (ltb (costOf s g x l) (costOf s g x b)))
+          go false e = rw (e, ne-eqb (costOf s g x l) (costOf s g x b) n, or-none (ltb (costOf s g x l) (costOf s g x b)))
+
+      module _ (equal : costOf s g x l ≡ costOf s g x b) where
+        by-number : (g .search .rule ≡ nearerFirst → ⊥) → before s g x l b ≡ false
+        unfolding before key keyBy sooner
+        by-number n =
+            rw (
+              ne-eqb (g .search .rule) nearerFirst n,
+              le-ltb (costOf s g x l) (costOf s g x b) (omega (arith, equal)),
+              eq-eqb (costOf s g x l) (costOf s g x b) equal,
+            ) last-not
+
+        by-incr : g .search .rule ≡ nearerFirst → before s g x l b ≡ ltb (costOf Incr g x l) (costOf Incr g x b)
+        unfolding before key keyBy sooner
+        by-incr n =
+            rw (
+              eq-eqb (g .search .rule) nearerFirst n,
+              le-ltb (costOf s g x l) (costOf s g x b) (omega (arith, equal)),
+              eq-eqb (costOf s g x l) (costOf s g x b) equal,
+              le-ltb l b (omega (arith, late)),
+              and-none (eqb l b),
+              and-none (eqb (costOf Incr g x l) (costOf Incr g x b)),
+              or-none (ltb (costOf Incr g x l) (costOf Incr g x b)),
+            )
+
+    -- what is found is a candidate
+    found-stands : (s : Measure) (b : ℕ) → bestOf s l ≡ At b → (b < l) × (candidate g x b ≡ true)
+    unfolding bestOf
+    found-stands s b e = go (subst (Stands (candidate g x) (before s g x) l) e (stands (candidate g x) (before s g x) l))
       where
-        new : Swap
-        new = record { link = o .link; cost = o .cost; lower = o .lower }
+        go : {b : ℕ} → Stands (candidate g x) (before s g x) l (At b) → (b < l) × (candidate g x b ≡ true)
+        go (somebody k m) = (k, m)
 
-        mine : Swap
-        mine = priced s g x (At l)
+    module _ (f : ℕ → ℕ) (known : (b : ℕ) → b < l → candidate g x b ≡ true → f b ≡ costOf Incr g x b) where
+      tied-told :
+          (s : Measure) (o : Offer) → o .cost ≡ costOf s g x l → o .incr ≡ costOf Incr g x l → (b : ℕ) → bestOf s l ≡ At b
+          → (ltb (o .cost) (costOf s g x b) || ltb (o .incr) (tiedBy (g .search .rule) f (priced s g x (bestOf s l)) (o .cost))) ≡ before s g x l b
+      unfolding tiedBy priced
+      tied-told s o p q b e = rw e (go (eqb (o .cost) (costOf s g x b)) refl (eqb (g .search .rule) nearerFirst) refl)
+        where
+          z : (b < l) × (candidate g x b ≡ true)
+          z = found-stands s b e
 
-        is-new : mine ≡ new
-        is-new = λ i. record { link = sym p i; cost = sym q i; lower = sym m i }
+          Goal : Type 0
+          Goal =
+              (ltb (o .cost) (costOf s g x b) ||
+              ltb (o .incr) (cond (eqb (g .search .rule) nearerFirst && eqb (o .cost) (costOf s g x b)) (f b) 0))
+              ≡ before s g x l b
 
-        same-test : (b : ℕ) → better o (asOffer (priced s g x (At b))) ≡ before s g x l b
-        same-test b = rw (p, q)
+          go : (v : Bool) → eqb (o .cost) (costOf s g x b) ≡ v → (t : Bool) → eqb (g .search .rule) nearerFirst ≡ t → Goal
+          go true h true r =
+              let same = sym p ∙ eqb-true (o .cost) (costOf s g x b) h in
+              rw (h, r, le-ltb (o .cost) (costOf s g x b) (omega (arith, p, same)), known b (z .0) (z .1), q)
+              (sym (by-incr s b (z .0) same (eqb-true (g .search .rule) nearerFirst r)))
+          go true h false r =
+              let same = sym p ∙ eqb-true (o .cost) (costOf s g x b) h in
+              rw (h, r, le-ltb (o .cost) (costOf s g x b) (omega (arith, p, same)), le-ltb (o .incr) 0 (omega arith))
+              (sym (by-number s b (z .0) same (eqb-false (g .search .rule) nearerFirst r)))
+          go false h t r =
+              rw (h, and-none (eqb (g .search .rule) nearerFirst), le-ltb (o .incr) 0 (omega arith), or-none (ltb (o .cost) (costOf s g x b)), p)
+              (sym (by-cost s b (z .0) (λ k. eqb-false (o .cost) (costOf s g x b) h (p ∙ k))))
 
-        two : (b : ℕ) (t : Bool) → before s g x l b ≡ t → priced s g x (cond (before s g x l b) (At l) (At b)) ≡ kept true (priced s g x (At b)) o
-        two b true e = rw (e, same-test b ∙ e) is-new
-        two b false e = rw (e, same-test b ∙ e)
+      incr-told :
+          (o : Offer) → o .cost ≡ costOf Incr g x l → (b : ℕ) → bestOf Incr l ≡ At b
+          → (ltb (o .cost) (costOf Incr g x b) || ltb (o .incr) 0) ≡ before Incr g x l b
+      incr-told o p b e =
+          rw (le-ltb (o .incr) 0 (omega arith), or-none (ltb (o .cost) (costOf Incr g x b)), p)
+          (go (eqb (costOf Incr g x l) (costOf Incr g x b)) refl (eqb (g .search .rule) nearerFirst) refl)
+        where
+          z : (b < l) × (candidate g x b ≡ true)
+          z = found-stands Incr b e
 
-        one : (f : Found) → priced s g x (cond (beats (before s g x) l f) (At l) f) ≡ kept (isAt f) (priced s g x f) o
-        one Nothing = is-new
-        one (At b) = two b (before s g x l b) refl
+          go :
+              (v : Bool) → eqb (costOf Incr g x l) (costOf Incr g x b) ≡ v → (t : Bool) → eqb (g .search .rule) nearerFirst ≡ t
+              → ltb (costOf Incr g x l) (costOf Incr g x b) ≡ before Incr g x l b
+          go true h true r =
+              sym (by-incr Incr b (z .0) (eqb-true (costOf Incr g x l) (costOf Incr g x b) h) (eqb-true (g .search .rule) nearerFirst r))
+          go true h false r =
+              let same = eqb-true (costOf Incr g x l) (costOf Incr g x b) h in
+              le-ltb (costOf Incr g x l) (costOf Incr g x b) (omega (arith, same))
+              ∙ sym (by-number Incr b (z .0) same (eqb-false (g .search .rule) nearerFirst r))
+          go false h t r = sym (by-cost Incr b (z .0) (eqb-false (costOf Incr g x l) (costOf Incr g x b) h))
 
-    nearer :
-        candidate g x l ≡ true
-        → (c : Costs) → c .sum ≡ costOf Sum g x l → c .incr ≡ costOf Incr g x l → c .max ≡ costOf Max g x l
-        → (lower : ℕ) → lower ≡ lowerMark (treeOf g) x (g .link l)
-        → entryOf (suc l) ≡ offered (entryOf l) true l lower c
-    unfolding offered entryOf
-    nearer n c p q r lower m =
-        rw (
-          had-one l,
-          nearer-state n,
-          swap-kept Sum n (record { link = l; cost = c .sum; incr = c .incr; lower = lower }) refl p m,
-          swap-kept Incr n (record { link = l; cost = c .incr; incr = c .incr; lower = lower }) refl q m,
-          swap-kept Max n (record { link = l; cost = c .max; incr = c .incr; lower = lower }) refl r m,
-        )
+      nearer :
+          candidate g x l ≡ true
+          → (c : Costs) → c .sum ≡ costOf Sum g x l → c .incr ≡ costOf Incr g x l → c .max ≡ costOf Max g x l
+          → (lower : ℕ) → lower ≡ lowerMark (treeOf g) x (g .link l)
+          → entryOf (suc l) ≡ offered (entryOf l) (standingBy (g .search .rule) f (entryOf l) c) true l lower c
+      unfolding offered standingBy entryOf Told
+      nearer n c p q r lower m =
+          let sum-offer : Offer = record { link = l; cost = c .sum; incr = c .incr; lower = lower } in
+          let incr-offer : Offer = record { link = l; cost = c .incr; incr = c .incr; lower = lower } in
+          let max-offer : Offer = record { link = l; cost = c .max; incr = c .incr; lower = lower } in
+          rw (
+            had-one l,
+            nearer-state n,
+            swap-kept Sum n sum-offer refl p m _ (tied-told Sum sum-offer p q),
+            swap-kept Incr n incr-offer refl q m _ (incr-told incr-offer q),
+            swap-kept Max n max-offer refl r m _ (tied-told Max max-offer r q),
+          )
 
   -- the entry of one more link, of a node that is not the root
   module _ (r : eqb x (g .search .root) ≡ false) (l : ℕ) where
@@ -175,35 +276,33 @@ module _ (g : Net) (x : ℕ) where
     entry-unmoved c = entry-of (suc l) r ∙ unmoved l c ∙ sym (entry-of l r)
 
     pub entry-offered :
-        crosses (treeOf g) x l (g .link l) ≡ true
+        (f : ℕ → ℕ) → ((b : ℕ) → b < l → candidate g x b ≡ true → f b ≡ costOf Incr g x b)
+        → crosses (treeOf g) x l (g .link l) ≡ true
         → (near : Bool) → near ≡ within (treeOf g) (g .search .depth) x (innerEnd (treeOf g) x (g .link l)) → (c : Costs)
         → c .sum ≡ costOf Sum g x l → c .incr ≡ costOf Incr g x l → c .max ≡ costOf Max g x l
         → (lower : ℕ) → lower ≡ lowerMark (treeOf g) x (g .link l)
-        → entry (firstLinks g (suc l)) x ≡ offered (entry (firstLinks g l) x) near l lower c
+        → entry (firstLinks g (suc l)) x
+        ≡ offered (entry (firstLinks g l) x) (standingBy (g .search .rule) f (entry (firstLinks g l) x) c) near l lower c
     unfolding candidate
-    entry-offered c true q k p i m lower z = rw (entry-of (suc l) r, entry-of l r) (nearer l (rw (c, ← q)) k p i m lower z)
-    entry-offered c false q k p i m lower z = rw (entry-of (suc l) r, entry-of l r) (deeper l c (rw (c, ← q)) k lower)
+    entry-offered f known c true q k p i m lower z = rw (entry-of (suc l) r, entry-of l r) (nearer l f known (rw (c, ← q)) k p i m lower z)
+    entry-offered f known c false q k p i m lower z = rw (entry-of (suc l) r, entry-of l r) (deeper l c (rw (c, ← q)) _ k lower)
 
-  -- a swap link of the first k links is one of them
-  found-low : (s : Measure) (k : ℕ) {f : Found} → Stands (candidate g x) (before s g x) k f → isAt f ≡ true → priced s g x f .link < k
+  -- what the swap link under incr costs by incr is its cost
+  incr-cost : (f : ℕ → ℕ) (k : ℕ) → ((b : ℕ) → b < k → candidate g x b ≡ true → f b ≡ costOf Incr g x b)
+      → {h : Found} → Stands (candidate g x) (before Incr g x) k h → isAt h ≡ true → f (priced Incr g x h .link) ≡ priced Incr g x h .cost
   unfolding priced
-  found-low s k nobody e = clash e refl
-  found-low s k (somebody l m) e = l
+  incr-cost f k known nobody e = clash e refl
+  incr-cost f k known (somebody {b} l m) e = known b l m
 
-  swap-low : (s : Measure) (k : ℕ) → savedOf k ≡ true → priced s g x (bestOf s k) .link < k
-  unfolding savedOf bestOf
-  swap-low s k e =
-      found-low s k (stands (candidate g x) (before s g x) k) (sym (some-found (candidate g x) (before s g x) k) ∙ e)
-
-  pub links-low :
-      eqb x (g .search .root) ≡ false
-      → (k : ℕ) → eqb (entry (firstLinks g k) x .state) swapState ≡ true
-      → (entry (firstLinks g k) x .sum .link < k)
-      × (entry (firstLinks g k) x .incr .link < k) × (entry (firstLinks g k) x .max .link < k)
-  unfolding entryOf
-  links-low r k e =
+  pub least-known :
+      (f : ℕ → ℕ) (k : ℕ) → ((b : ℕ) → b < k → candidate g x b ≡ true → f b ≡ costOf Incr g x b)
+      → eqb x (g .search .root) ≡ false → eqb (entry (firstLinks g k) x .state) swapState ≡ true
+      → f (entry (firstLinks g k) x .incr .link) ≡ entry (firstLinks g k) x .incr .cost
+  unfolding entryOf bestOf savedOf
+  least-known f k known r e =
       let saved : savedOf k ≡ true = sym (had-one k) ∙ (rw (entry-of k r) at e) in
-      rw (entry-of k r) (swap-low Sum k saved, swap-low Incr k saved, swap-low Max k saved)
+      rw (entry-of k r)
+      (incr-cost f k known (stands (candidate g x) (before Incr g x) k) (sym (some-found (candidate g x) (before Incr g x) k) ∙ saved))
 
   -- the root's entry stays
   entry-top : eqb x (g .search .root) ≡ true → (k : ℕ) → entry (firstLinks g k) x ≡ blank rootState

@@ -16,15 +16,49 @@ use Rattle.survey.specs.Known.{count, base, turn}
 use Rattle.survey.specs.Row.{nodesIn, knownAt}
 use Rattle.sound.specs.Surveyed.{Surveyed}
 use Rattle.survey.proofs.Inside.{inside-bound}
-use Rattle.swap.specs.Swap.{innerEnd, outerEnd, newDist, cost, costOf}
-use Rattle.swap.specs.Work.{reach}
-use Rattle.swap.proofs.Costing.{never-nearer, incr-is}
+use Rattle.sound.proofs.Holding.{first-in, second-in}
+use Rattle.swap.specs.Swap.{innerEnd, outerEnd, crosses, newDist, cost, costOf}
+use Rattle.swap.specs.Work.{through, reach}
+use Rattle.swap.proofs.Costing.{crossing-splits, of-inner, never-nearer, incr-is}
 use Rattle.swap.proofs.Folding.{sum-is, through-ends}
 use Rattle.swap.proofs.Reaching.{max-is}
 use Rattle.table.specs.declared.Side.{Side}
-use Rattle.table.specs.Work.{Costing, Crossing, Carries, Priced}
+use Rattle.table.specs.Work.{Costing, Crossing, Carries, Priced, incrBy}
 use Rattle.table.proofs.Surveys.{fine, in-tree, homes, dist-few, count-few, base-few, near-is, count-is, base-is}
 use Rattle.table.proofs.Sides.{from-home, node-low, node-there}
+
+-- what a link that crosses costs by incr: the way through it less twice the distance of the node
+module _ {g : Net} {row : List ℕ} (sv : Surveyed g row) (x e : ℕ) (low : x < g .nodes) (there : e < g .links)
+    (cross : crosses (treeOf g) x e (g .link e) ≡ true) where
+  splits : under (treeOf g) x (innerEnd (treeOf g) x (g .link e)) ≡ true
+  splits = crossing-splits (treeOf g) x (g .link e) e cross .0
+
+  inner-home : Home (treeOf g) (innerEnd (treeOf g) x (g .link e))
+  inner-home =
+      of-inner (treeOf g) x (g .link e) (Home (treeOf g))
+      (homes sv _ (in-tree sv _ (first-in g (fine sv) e there))) (homes sv _ (in-tree sv _ (second-in g (fine sv) e there)))
+
+  own-new :
+      newDist (treeOf g) x (g .link e) x
+      ≡ apart (treeOf g) x (innerEnd (treeOf g) x (g .link e)) + g .link e .length + dist (treeOf g) (outerEnd (treeOf g) x (g .link e))
+  unfolding newDist
+  own-new = refl
+
+  incr-whole : costOf Incr g x e + 2 * dist (treeOf g) x ≡ through (treeOf g) (g .link e)
+  unfolding costOf
+  incr-whole =
+      omega (
+        arith,
+        incr-is g (fine sv) x e there cross low,
+        never-nearer g (fine sv) x e there cross x low,
+        own-new,
+        apart-below (treeOf g) x (innerEnd (treeOf g) x (g .link e)) inner-home splits,
+        through-ends (treeOf g) (homes sv) x (g .link e) inner-home splits,
+      )
+
+  pub incr-by : incrBy g x e ≡ costOf Incr g x e
+  unfolding incrBy
+  incr-by = omega (arith, incr-whole)
 
 module _ {g : Net} {row : List ℕ} {e k : ℕ} {s : Side} (h : Costing g row e k s) where
   sv : Surveyed g row
@@ -80,24 +114,8 @@ module _ {g : Net} {row : List ℕ} {e k : ℕ} {s : Side} (h : Costing g row e 
       (sym (c .low))
       (omega (arith, i .reach-is, ends))
 
-  own-new :
-      newDist (treeOf g) (s .climb .node) (g .link e) (s .climb .node)
-      ≡ apart (treeOf g) (s .climb .node) (innerEnd (treeOf g) (s .climb .node) (g .link e)) + g .link e .length + dist
-      (treeOf g) (outerEnd (treeOf g) (s .climb .node) (g .link e))
-  unfolding newDist
-  own-new = refl
-
   incrs : costOf Incr g (s .climb .node) e + 2 * dist (treeOf g) (s .climb .node) ≡ k
-  unfolding costOf
-  incrs =
-      omega (
-        arith,
-        incr-is g (fine sv) (s .climb .node) e (c .there) (c .cross) x-low,
-        never-nearer g (fine sv) (s .climb .node) e (c .there) (c .cross) (s .climb .node) x-low,
-        own-new,
-        apart-below (treeOf g) (s .climb .node) (innerEnd (treeOf g) (s .climb .node) (g .link e)) hl pl,
-        c .through-is ∙ through-ends (treeOf g) (homes sv) (s .climb .node) (g .link e) hl pl,
-      )
+  incrs = incr-whole sv (s .climb .node) e x-low (c .there) (c .cross) ∙ sym (c .through-is)
 
   -- K is small
   k-small : k ≤ 3 * (nodeLimit * longest)

@@ -29,6 +29,7 @@ use Rattle.table.specs.Work.{Starts, Started, Searching, Spare, Climbing
 use Rattle.table.specs.declared.Side.{Side}
 use Rattle.table.proofs.Surveys.{fine, size-is, in-tree, dist-few}
 use Rattle.table.proofs.Ranks.{rank-same}
+use Rattle.table.proofs.Nearness.{row-reads}
 use Rattle.table.proofs.Offering.{entries-same}
 use Rattle.table.proofs.Linking.{want-kept, differ-same}
 
@@ -199,10 +200,11 @@ module _ (links parents : List ℕ) (search : Search) where
         pub climbing :
             {asked ranks row : List ℕ}
             → Searching g asked survey ranks row
-            → Climbing g search asked survey ranks row e (a .near + l .length + b .near) a b
+            → Climbing g search links asked survey ranks row e (a .near + l .length + b .near) a b
         climbing h =
             record {
               searching = h;
+              reads = row-reads links parents search sv held;
               search-is = search-is;
               spare = spare;
               starting =

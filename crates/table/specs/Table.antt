@@ -23,7 +23,7 @@ use Rattle.table.specs.declared.EntryAnswer.the-variants.{Is, Not}
 unfoldable pub table : Net → List ℕ
 table g = rowsTo (λ x. entryRow (entry g x)) (g .nodes)
 
--- 1 to 9, then 10 where fewer entries are lent than there are nodes.
+-- 1 to 4, 14, 5 to 9, then 10 where fewer entries are lent than there are nodes.
 unfoldable pub tableVerdict : Net → List ℕ → Verdict
 tableVerdict g row = firstly (netVerdict g ∷ refuseIf (ltb (entriesIn row) (g .nodes)) NoRoom 0 ∷ [])
 
@@ -31,11 +31,11 @@ tableVerdict g row = firstly (netVerdict g ∷ refuseIf (ltb (entriesIn row) (g 
 unfoldable pub tableRow : Net → List ℕ → List ℕ
 tableRow g row = let new = table g ++ pastEntries (g .nodes) row in ifTaken (tableVerdict g row) new row
 
--- 1 to 10 with a row to work in for the survey: before all of it 10, where that row has no room for a network at the limit.
+-- The same with a row to work in for the survey: before all of it 10, where that row has no room for a network at the limit.
 unfoldable pub workVerdict : Net → List ℕ → List ℕ → Verdict
 workVerdict g survey row = firstly (soundVerdict g survey ∷ refuseIf (ltb (entriesIn row) (g .nodes)) NoRoom 0 ∷ [])
 
--- One node's entry: 1 to 9, then 8 at x where x is no node.
+-- One node's entry: 1 to 4, 14, 5 to 9, then 8 at x where x is no node.
 unfoldable pub entryVerdict : Net → ℕ → Verdict
 entryVerdict g x = firstly (netVerdict g ∷ refuseIf (leb (g .nodes) x) NoRoute x ∷ [])
 

@@ -2,7 +2,7 @@
 use mathlib.Core.Path.{_≡_}
 use mathlib.Core.Bool.{Bool, true, false, cond, _||_}
 use mathlib.Core.List.{List, [], _∷_}
-use Prim.Native.Nat.{ℕ, suc, _+_, _*_, _<_, _≤_}
+use Prim.Native.Nat.{ℕ, suc, _+_, _*_, _-_, _<_, _≤_}
 use lib.Dec.{eqb, leb}
 use lib.ListN.{length, getD}
 use Rattle.edition.specs.declared.Search.{Search}
@@ -12,7 +12,7 @@ use Rattle.edition.specs.Limits.{nodeLimit, wholeSearch, longest, noNode}
 use Rattle.edition.specs.Entries.{firstEnd, secondEnd, rootState, bridgeState, blank}
 use Rattle.edition.specs.declared.Measure.the-variants.{Sum, Incr, Max}
 use Rattle.network.specs.declared.Link.{Link}
-use Rattle.network.specs.Network.{Net, inService}
+use Rattle.network.specs.Network.{Net, linkIn, inService}
 use Rattle.tree.specs.Tree.{Tree, treeOf, route, dist, under}
 use Rattle.table.specs.declared.Costs.{Costs}
 use Rattle.sound.specs.Surveyed.{Surveyed}
@@ -22,9 +22,11 @@ use Rattle.survey.specs.Row.{nodesIn, knownAt}
 use Rattle.swap.specs.Work.{through, reach}
 use Rattle.tree.specs.Work.{Along}
 use Rattle.swap.specs.Entry.{entry}
-use Rattle.table.specs.Prefix.{firstLinks}
+use Rattle.table.specs.declared.Standing.{Standing}
+use Rattle.table.specs.Prefix.{firstLinks, standingBy}
 use Rattle.table.specs.declared.Side.{Side}
-use Rattle.entries.specs.Row.{entriesIn, entryRow, standing, pastEntries}
+use Rattle.table.specs.declared.Bid.{Bid}
+use Rattle.entries.specs.Row.{entriesIn, entryAt, entryRow, standing, pastEntries}
 use Rattle.table.specs.Table.{isAsked}
 
 -- a row of entries that holds the record f of each node, and past them what another row holds
@@ -130,6 +132,17 @@ pub record Starts (g : Net) (survey : List ℕ) (z : ℕ) : Type 0 where
   pub surveyed : Surveyed g survey
   pub low : z < g .nodes
 
+-- a row of links that holds those of a network; its ends are nodes, and no length is longer than one can be, also where there is no link
+pub record Reads (g : Net) (links : List ℕ) : Type 0 where
+  pub link-is : (b : ℕ) → linkIn links b ≡ g .link b
+  pub first-low : (b : ℕ) → linkIn links b .first < g .nodes
+  pub second-low : (b : ℕ) → linkIn links b .second < g .nodes
+  pub long : (b : ℕ) → linkIn links b .length ≤ longest
+
+-- what link b costs x by incr, where it crosses x: the way through it less twice the distance of x
+unfoldable pub incrBy : Net → ℕ → ℕ → ℕ
+incrBy g x b = through (treeOf g) (g .link b) - 2 * dist (treeOf g) x
+
 -- a climb that begins there
 pub record Started (g : Net) (z lower : ℕ) (s : Side) : Type 0 where
   pub carries : Carries (treeOf g) z s
@@ -162,10 +175,26 @@ pub record Searching (g : Net) (asked survey ranks entries : List ℕ) : Type 0 
   pub room : g .nodes ≤ entriesIn entries
 
 -- in a search, a climb at a node that link e crosses
-pub record Offering (g : Net) (search : Search) (asked survey ranks entries : List ℕ) (e k : ℕ) (s : Side) : Type 0 where
+pub record Offering (g : Net) (search : Search) (links asked survey ranks entries : List ℕ) (e k : ℕ) (s : Side) : Type 0 where
   pub searching : Searching g asked survey ranks entries
+  pub reads : Reads g links
   pub search-is : g .search ≡ search
   pub costing : Costing g survey e k s
+
+-- what is offered to the node where a climb is, of a link with these costs
+unfoldable pub bidOf : Side → Costs → Bid
+bidOf s c = record { node = s .climb .node; hops = s .climb .hops; lower = s .lower; costs = c }
+
+-- in a search, link e offered to the node where a climb is, which is asked for
+pub record Bidding (g : Net) (search : Search) (links asked survey ranks entries : List ℕ) (e k : ℕ) (s : Side) (bid : Bid) : Type 0 where
+  pub offering : Offering g search links asked survey ranks entries e k s
+  pub priced : Priced g (s .climb .node) e (bid .costs)
+  pub on : isAsked asked (s .climb .node) ≡ true
+  pub is : bid ≡ bidOf s (bid .costs)
+
+-- what the swap links of the node that a bid is for cost it by incr, where that decides, by a row of entries
+unfoldable pub standingIn : Net → Search → List ℕ → Bid → Standing
+standingIn g search row bid = standingBy (search .rule) (incrBy g (bid .node)) (entryAt row (bid .node)) (bid .costs)
 
 -- the record of x after k links: worked out where x is asked for, as it stood elsewhere
 unfoldable pub want : Net → List ℕ → List ℕ → ℕ → ℕ → List ℕ
@@ -210,8 +239,9 @@ pub record Starting (g : Net) (e : ℕ) (a b : Side) : Type 0 where
   pub two-mark : b .lower ≡ secondEnd
 
 -- in a search, two climbs at the ends of a spare link
-pub record Climbing (g : Net) (search : Search) (asked survey ranks entries : List ℕ) (e k : ℕ) (a b : Side) : Type 0 where
+pub record Climbing (g : Net) (search : Search) (links asked survey ranks entries : List ℕ) (e k : ℕ) (a b : Side) : Type 0 where
   pub searching : Searching g asked survey ranks entries
+  pub reads : Reads g links
   pub search-is : g .search ≡ search
   pub spare : Spare g e k
   pub starting : Starting g e a b
@@ -249,9 +279,11 @@ pub record Risen (g : Net) (survey : List ℕ) (x : ℕ) (s r : Side) : Type 0 w
   pub lower-is : r .lower ≡ s .lower
 
 -- link e, which is l, crosses x, and its first end is in T(x) or not
-pub record Crossed (g : Net) (search : Search) (survey : List ℕ) (x e : ℕ) (l : Link) (first : Bool) : Type 0 where
+pub record Crossed (g : Net) (search : Search) (links survey : List ℕ) (x e : ℕ) (l : Link) (first : Bool) : Type 0 where
   pub surveyed : Surveyed g survey
+  pub reads : Reads g links
   pub search-is : g .search ≡ search
+  pub low : x < g .nodes
   pub there : e < g .links
   pub link-is : g .link e ≡ l
   pub cross : crosses (treeOf g) x e (g .link e) ≡ true

@@ -18,9 +18,11 @@ ghost use Rattle.sound.specs.Surveyed.{Surveyed, soundRow};
 ghost use Rattle.swap.specs.Entry.{entry};
 ghost use Rattle.swap.specs.Work.{through};
 ghost use Rattle.table.specs.Work.{Starts, Started, Stepping, Stepped, Costing, Priced, Searching, Offering, OfferedAt, Worth, withinBy};
+ghost use Rattle.table.specs.Work.{Reads, incrBy, Bidding, bidOf, standingIn};
 ghost use Rattle.table.specs.Work.{Climbing, Linked, LinkedTo, Entries, startAt, rankOf, rank, Ranked, Weighed};
 ghost use Rattle.table.specs.Work.{firstRank, Partly, Upward, Joined, Ranking, Telling, Rising, Risen, Crossed};
-ghost use Rattle.table.specs.Prefix.{better, noBetter, kept, offered, firstLinks};
+ghost use Rattle.table.specs.declared.Side.{Side};
+ghost use Rattle.table.specs.Prefix.{settled, allSettled, noBetter, kept, tiedBy, standingBy, offered, firstLinks};
 ghost use Rattle.table.specs.Table.{isAsked, freshAt, tableVerdict, workVerdict, freshRow, tableRow, entryVerdict, entryAnswer};
 use edition::Edition;
 use edition::Entry;
@@ -52,6 +54,12 @@ struct Costs {
     pub max: u64,
 }
 
+// What the standing swap links of a node cost it by incr, under sum and under max; 0 where that does not decide.
+struct Standing {
+    pub sum: u64,
+    pub max: u64,
+}
+
 // A climb from the lower end z of a link: z, its mark, its distance and its turn, and the largest tree distance from z to a node below
 // where the climb is.
 pub struct Side {
@@ -61,6 +69,15 @@ pub struct Side {
     pub near: u64,
     pub turn: u64,
     pub reach: u64,
+}
+
+// A link as it is offered to a node: the node, how many hops the link's lower end is below it, the mark of that end, and what the link
+// costs the node.
+struct Bid {
+    pub node: usize,
+    pub hops: usize,
+    pub lower: u64,
+    pub costs: Costs,
 }
 
 // The entry of one node, or why there is none.
@@ -126,6 +143,24 @@ impl Side {
     }
 }
 
+// What is offered to the node where the climb is, of a link with these costs. A value of its own, so that the loop which climbs need
+// not keep the whole climb in memory.
+fn bid_of(side: Side, c: Costs) -> Bid
+    ensures { λ r. ⌜ r ≡ bidOf side c ⌝ }
+{
+    let climb = side.climb;
+    Bid {
+        node: climb.node,
+        hops: climb.hops,
+        lower: side.lower,
+        costs: Costs {
+            sum: c.sum,
+            incr: c.incr,
+            max: c.max,
+        },
+    }
+}
+
 // What a link costs the node where the climb is, by the survey and what is carried; k is the way through the link.
 fn costs_of(survey: &[u64], side: Side, k: u64) -> Costs
     requires { ⌜ ((g : Net) × (e : ℕ) × Costing g (now survey) e k side) ⌝ }
@@ -150,22 +185,10 @@ fn is_within(depth: u16, hops: usize) -> bool
     hops <= depth as usize
 }
 
-// Whether one candidate is better than another: it costs less, or as much and has the lower number.
-fn is_better(a: Offer, b: Offer) -> bool
-    ensures { λ r. ⌜ r ≡ better a b ⌝ }
-{
-    if a.cost < b.cost {
-        return true;
-    }
-    if a.cost == b.cost {
-        return a.link < b.link;
-    }
-    false
-}
-
-// The better of a swap link, where there is one yet, and a candidate.
-fn keep(had: bool, old: Swap, new: Offer) -> Swap
-    ensures { λ r. ⌜ r ≡ kept had old new ⌝ }
+// The better of a standing swap link, where there is one yet, and a later candidate. `tied` is what the standing one costs by incr where
+// that decides, and 0 elsewhere.
+fn keep(had: bool, tied: u64, old: Swap, new: Offer) -> Swap
+    ensures { λ r. ⌜ r ≡ kept had tied old new ⌝ }
 {
     let it = Swap {
         link: new.link,
@@ -175,21 +198,18 @@ fn keep(had: bool, old: Swap, new: Offer) -> Swap
     if !had {
         return it;
     }
-    let standing = Offer {
-        link: old.link,
-        cost: old.cost,
-        incr: 0,
-        lower: old.lower,
-    };
-    if is_better(new, standing) {
+    if new.cost < old.cost {
+        return it;
+    }
+    if new.incr < tied {
         return it;
     }
     old
 }
 
 // The entry with one more link that crosses within the depth.
-fn with_candidate(old: Entry, e: u64, lower: u64, c: Costs) -> Entry
-    ensures { λ r. ⌜ r ≡ offered old true e lower c ⌝ }
+fn with_candidate(old: Entry, standing: Standing, e: u64, lower: u64, c: Costs) -> Entry
+    ensures { λ r. ⌜ r ≡ offered old standing true e lower c ⌝ }
 {
     let had = old.state == Edition::SWAP;
     let sum = Offer {
@@ -215,15 +235,15 @@ fn with_candidate(old: Entry, e: u64, lower: u64, c: Costs) -> Entry
     let m = old.max;
     Entry {
         state: Edition::SWAP,
-        sum: keep(had, s, sum),
-        incr: keep(had, i, incr),
-        max: keep(had, m, max),
+        sum: keep(had, standing.sum, s, sum),
+        incr: keep(had, 0, i, incr),
+        max: keep(had, standing.max, m, max),
     }
 }
 
 // The entry with one more link that crosses too deep.
-fn with_crossing(old: Entry, e: u64, lower: u64, c: Costs) -> Entry
-    ensures { λ r. ⌜ r ≡ offered old false e lower c ⌝ }
+fn with_crossing(old: Entry, standing: Standing, e: u64, lower: u64, c: Costs) -> Entry
+    ensures { λ r. ⌜ r ≡ offered old standing false e lower c ⌝ }
 {
     if old.state == Edition::SWAP {
         return old;
@@ -240,13 +260,13 @@ fn with_crossing(old: Entry, e: u64, lower: u64, c: Costs) -> Entry
 }
 
 // The entry with one more link that crosses, within the depth or not.
-fn with_link(old: Entry, near: bool, e: u64, lower: u64, c: Costs) -> Entry
-    ensures { λ r. ⌜ r ≡ offered old near e lower c ⌝ }
+fn with_link(old: Entry, standing: Standing, near: bool, e: u64, lower: u64, c: Costs) -> Entry
+    ensures { λ r. ⌜ r ≡ offered old standing near e lower c ⌝ }
 {
     if near {
-        return with_candidate(old, e, lower, c);
+        return with_candidate(old, standing, e, lower, c);
     }
-    with_crossing(old, e, lower, c)
+    with_crossing(old, standing, e, lower, c)
 }
 
 // Whether an entry has a swap link already and no cost of a link is lower than its own.
@@ -268,6 +288,94 @@ fn no_better(old: Entry, c: Costs) -> bool
     m.cost <= c.max
 }
 
+// Whether a swap link stays before a candidate of no lower cost, whatever that costs by incr: the costs differ, or it is the swap link
+// under incr.
+fn is_settled(s: Swap, least: Swap, cost: u64) -> bool
+    ensures { λ r. ⌜ r ≡ settled s least cost ⌝ }
+{
+    if s.cost != cost {
+        return true;
+    }
+    s.link == least.link
+}
+
+// Whether this holds under sum and under max.
+fn all_settled(old: Entry, c: Costs) -> bool
+    ensures { λ r. ⌜ r ≡ allSettled old c ⌝ }
+{
+    let s = old.sum;
+    let i = old.incr;
+    let m = old.max;
+    if !is_settled(s, i, c.sum) {
+        return false;
+    }
+    is_settled(m, i, c.max)
+}
+
+// The way through a link: the distances of its ends and its length.
+fn way_through(survey: &[u64], l: Link) -> u64
+    requires { ⌜ ((g : Net) × Starts g (now survey) (l .first) × Starts g (now survey) (l .second) × (l .length ≤ longest)) ⌝ }
+    ensures { λ r.
+        ⌜ ((g : Net)
+        → Starts g (now (survey .entry)) (l .first)
+        → Starts g (now (survey .entry)) (l .second)
+        → r ≡ through (treeOf g) l) ⌝ }
+{
+    let p = survey::known_at(survey, l.first as usize);
+    let q = survey::known_at(survey, l.second as usize);
+    p.near + l.length as u64 + q.near
+}
+
+// What link b costs node x by incr, where it crosses x: the way through it less twice the distance of x.
+fn incr_of(links: &[u16], survey: &[u64], x: usize, b: u64) -> u64
+    requires { ⌜ ((g : Net) × Starts g (now survey) x × Reads g (now links)) ⌝ }
+    ensures { λ r.
+        ⌜ ((g : Net) → Starts g (now (survey .entry)) x → Reads g (now (links .entry)) → r ≡ incrBy g x b) ⌝ }
+{
+    let k = way_through(survey, network::link_at(links, b as usize));
+    let at = survey::known_at(survey, x);
+    let own = 2 * at.near;
+    if k < own {
+        return 0;
+    }
+    k - own
+}
+
+// What a swap link of node x costs it by incr, where that decides between it and a candidate of this cost; 0 elsewhere.
+fn tied_incr(rule: u16, links: &[u16], survey: &[u64], x: usize, s: Swap, cost: u64) -> u64
+    requires { ⌜ ((g : Net) × Starts g (now survey) x × Reads g (now links)) ⌝ }
+    ensures { λ r.
+        ⌜ ((g : Net)
+        → Starts g (now (survey .entry)) x
+        → Reads g (now (links .entry))
+        → r ≡ tiedBy rule (incrBy g x) s cost) ⌝ }
+{
+    if cost != s.cost {
+        return 0;
+    }
+    if rule != Memory::NEARER {
+        return 0;
+    }
+    incr_of(links, survey, x, s.link)
+}
+
+// So under sum and under max, of an entry and a candidate of these costs.
+fn standing_of(rule: u16, links: &[u16], survey: &[u64], x: usize, old: Entry, c: Costs) -> Standing
+    requires { ⌜ ((g : Net) × Starts g (now survey) x × Reads g (now links)) ⌝ }
+    ensures { λ r.
+        ⌜ ((g : Net)
+        → Starts g (now (survey .entry)) x
+        → Reads g (now (links .entry))
+        → r ≡ standingBy rule (incrBy g x) old c) ⌝ }
+{
+    let s = old.sum;
+    let m = old.max;
+    Standing {
+        sum: tied_incr(rule, links, survey, x, s, c.sum),
+        max: tied_incr(rule, links, survey, x, m, c.max),
+    }
+}
+
 // The rank of node x, were it asked for.
 fn own_rank(survey: &[u64], x: usize) -> u32
     requires { ⌜ Weighed (now survey) x ⌝ }
@@ -277,16 +385,16 @@ fn own_rank(survey: &[u64], x: usize) -> u32
     k.count as u32 * STEP + x as u32 + 1
 }
 
-// Whether a link of these costs can better the entry of the node where the climb is: that node is asked for, and has no swap link yet
-// or one that costs more under a measure.
-fn is_worth(ranks: &[u32], entries: &[u64], side: Side, c: Costs) -> bool
-    requires { ⌜ ((g : Net) × (search : Search) × (asked : List ℕ) × (survey : List ℕ) × (e : ℕ) × (k : ℕ)
-        × Offering g search asked survey (now ranks) (now entries) e k side
+// Whether a link of these costs can better the entry of the node where the climb is: that node is asked for, and has no swap link yet,
+// or one that costs more under a measure, or as much where the tie rule sets the new one before it.
+fn is_worth(search: Search, ranks: &[u32], entries: &[u64], side: Side, c: Costs) -> bool
+    requires { ⌜ ((g : Net) × (links : List ℕ) × (asked : List ℕ) × (survey : List ℕ) × (e : ℕ) × (k : ℕ)
+        × Offering g search links asked survey (now ranks) (now entries) e k side
         × Priced g (side .climb .node) e c) ⌝ }
     ensures { λ r.
         let row = now (entries .entry) in
-        ⌜ ((g : Net) (search : Search) (asked survey : List ℕ) (e k : ℕ)
-        → Offering g search asked survey (now (ranks .entry)) row e k side
+        ⌜ ((g : Net) (links asked survey : List ℕ) (e k : ℕ)
+        → Offering g search links asked survey (now (ranks .entry)) row e k side
         → Priced g (side .climb .node) e c
         → Worth g (g .nodes) asked e (side .climb .node) row r) ⌝ }
 {
@@ -295,29 +403,47 @@ fn is_worth(ranks: &[u32], entries: &[u64], side: Side, c: Costs) -> bool
     if ranks[x] % STEP != x as u32 + 1 {
         return false;
     }
-    let old = entries::entry_there(entries, x);
-    !no_better(old, c)
+    if !no_better(entries::entry_there(entries, x), c) {
+        return true;
+    }
+    if search.rule != Memory::NEARER {
+        return false;
+    }
+    !all_settled(entries::entry_there(entries, x), c)
 }
 
-// Offers link e, which has these costs, to the node where the climb is, which is asked for.
-fn offer_at(search: Search, entries: &mut [u64], side: Side, e: usize, c: Costs)
-    requires { ⌜ ((g : Net) × (asked : List ℕ) × (survey : List ℕ) × (ranks : List ℕ) × (k : ℕ)
-        × Offering g search asked survey ranks (now entries) e k side
-        × Priced g (side .climb .node) e c
-        × (isAsked asked (side .climb .node) ≡ true)) ⌝ }
+// What the swap links of the node that is bid for cost it by incr, where that decides.
+fn standing_at(links: &[u16], search: Search, survey: &[u64], entries: &[u64], bid: Bid) -> Standing
+    requires { ⌜ ((g : Net) × (asked : List ℕ) × (ranks : List ℕ) × (e : ℕ) × (k : ℕ) × (side : Side)
+        × Bidding g search (now links) asked (now survey) ranks (now entries) e k side bid) ⌝ }
+    ensures { λ r.
+        let row = now (entries .entry) in
+        ⌜ ((g : Net) (asked ranks : List ℕ) (e k : ℕ) (side : Side)
+        → Bidding g search (now (links .entry)) asked (now (survey .entry)) ranks row e k side bid
+        → r ≡ standingIn g search row bid) ⌝ }
+{
+    let x = bid.node;
+    let c = bid.costs;
+    let old = entries::entry_there(entries, x);
+    standing_of(search.rule, links, survey, x, old, c)
+}
+
+// Offers link e to a node that is asked for.
+fn offer_at(search: Search, entries: &mut [u64], bid: Bid, standing: Standing, e: usize)
+    requires { ⌜ ((g : Net) × (links : List ℕ) × (asked : List ℕ) × (survey : List ℕ) × (ranks : List ℕ) × (k : ℕ) × (side : Side)
+        × Bidding g search links asked survey ranks (now entries) e k side bid) ⌝ }
     ensures { λ _.
         let row = now (entries .entry) in
-        ⌜ ((g : Net) (asked survey ranks : List ℕ) (k : ℕ)
-        → Offering g search asked survey ranks row e k side
-        → Priced g (side .climb .node) e c
-        → isAsked asked (side .climb .node) ≡ true
+        ⌜ ((g : Net) (links asked survey ranks : List ℕ) (k : ℕ) (side : Side)
+        → Bidding g search links asked survey ranks row e k side bid
+        → standing ≡ standingIn g search row bid
         → OfferedAt g (g .nodes) asked e (side .climb .node) row (now (entries .exit))) ⌝ }
 {
-    let climb = side.climb;
-    let x = climb.node;
+    let x = bid.node;
+    let c = bid.costs;
     let old = entries::entry_there(entries, x);
-    let near_enough = is_within(search.depth, climb.hops);
-    let new = with_link(old, near_enough, e as u64, side.lower, c);
+    let near_enough = is_within(search.depth, bid.hops);
+    let new = with_link(old, standing, near_enough, e as u64, bid.lower, c);
     entries::put_there(entries, x, new);
 }
 
@@ -334,6 +460,7 @@ fn rank_at(ranks: &[u32], side: Side) -> u32
 // Offers link e to every node asked for that it crosses, by a climb from each end up to where both have the same rank. The one
 // whose anchor has fewer nodes below it is not above the other, and goes on; one that has no anchor stands still.
 fn climb_link(
+    links: &[u16],
     search: Search,
     survey: &[u64],
     ranks: &[u32],
@@ -343,11 +470,12 @@ fn climb_link(
     e: usize,
     k: u64,
 )
-    requires { ⌜ ((g : Net) × (asked : List ℕ) × Climbing g search asked (now survey) (now ranks) (now entries) e k first second) ⌝ }
+    requires { ⌜ ((g : Net) × (asked : List ℕ)
+        × Climbing g search (now links) asked (now survey) (now ranks) (now entries) e k first second) ⌝ }
     ensures { λ _.
         let row = now (entries .entry) in
         ⌜ ((g : Net) (asked : List ℕ)
-        → Climbing g search asked (now (survey .entry)) (now (ranks .entry)) row e k first second
+        → Climbing g search (now (links .entry)) asked (now (survey .entry)) (now (ranks .entry)) row e k first second
         → Linked g (g .nodes) asked e row (now (entries .exit))) ⌝ }
 {
     let mut a = first;
@@ -355,14 +483,18 @@ fn climb_link(
     while rank_at(ranks, a) != rank_at(ranks, b) {
         if rank_at(ranks, b) / STEP < rank_at(ranks, a) / STEP {
             let c = costs_of(survey, b, k);
-            if is_worth(ranks, entries, b, c) {
-                offer_at(search, entries, b, e, c);
+            if is_worth(search, ranks, entries, b, c) {
+                let bid = bid_of(b, c);
+                let standing = standing_at(links, search, survey, entries, bid);
+                offer_at(search, entries, bid, standing, e);
             }
             b = b.step(survey);
         } else {
             let c = costs_of(survey, a, k);
-            if is_worth(ranks, entries, a, c) {
-                offer_at(search, entries, a, e, c);
+            if is_worth(search, ranks, entries, a, c) {
+                let bid = bid_of(a, c);
+                let standing = standing_at(links, search, survey, entries, bid);
+                offer_at(search, entries, bid, standing, e);
             }
             a = a.step(survey);
         }
@@ -407,7 +539,7 @@ fn offer_link(
     let a = begin_side(survey, p, Edition::FIRST);
     let b = begin_side(survey, q, Edition::SECOND);
     let k = a.near + l.length as u64 + b.near;
-    climb_link(search, survey, ranks, entries, a, b, e, k);
+    climb_link(links, search, survey, ranks, entries, a, b, e, k);
 }
 
 // The entry of x before any link: the root's, or a bridge's.
@@ -615,7 +747,7 @@ pub fn refresh_surveyed(
     search_asked(links, parents, search, survey, asked, entries);
 }
 
-// Whether a table can be worked out: refusals 1 to 9, then 10 where fewer entries are lent than there are nodes.
+// Whether a table can be worked out: refusals 1 to 4, 14, 5 to 9, then 10 where fewer entries are lent than there are nodes.
 pub fn check_table(links: &[u16], parents: &[u16], search: Search, entries: &[u64]) -> Verdict
     ensures { λ r.
         let g = netOf (now (links .entry)) (now (parents .entry)) search in
@@ -628,7 +760,7 @@ pub fn check_table(links: &[u16], parents: &[u16], search: Search, entries: &[u6
     rows::refuse_if(entries::entries_in(entries) < sizes.nodes, Why::NoRoom, 0)
 }
 
-// The same, and in a lent row the survey of the network, which stands there where 1 to 8 refuse nothing. Before all of these 10,
+// The same, and in a lent row the survey of the network, which stands there where 1 to 8 and 14 refuse nothing. Before all of these 10,
 // where that row holds fewer records than memory has nodes.
 pub fn survey_table(
     links: &[u16],
@@ -682,7 +814,7 @@ pub fn table(links: &[u16], parents: &[u16], search: Search, entries: &mut [u64]
     refresh(links, parents, search, &asked, entries)
 }
 
-// Whether a number has an entry: refusals 1 to 9, then 8 where it is no node.
+// Whether a number has an entry: refusals 1 to 4, 14, 5 to 9, then 8 where it is no node.
 pub fn check_entry(links: &[u16], parents: &[u16], search: Search, x: usize) -> Verdict
     ensures { λ r.
         let g = netOf (now (links .entry)) (now (parents .entry)) search in
@@ -719,20 +851,6 @@ fn end_side(survey: &[u64], l: Link, first: bool) -> Side
     begin_side(survey, l.second as usize, Edition::SECOND)
 }
 
-// The way through a link: the distances of its ends and its length.
-fn way_through(survey: &[u64], l: Link) -> u64
-    requires { ⌜ ((g : Net) × Starts g (now survey) (l .first) × Starts g (now survey) (l .second) × (l .length ≤ longest)) ⌝ }
-    ensures { λ r.
-        ⌜ ((g : Net)
-        → Starts g (now (survey .entry)) (l .first)
-        → Starts g (now (survey .entry)) (l .second)
-        → r ≡ through (treeOf g) l) ⌝ }
-{
-    let p = survey::known_at(survey, l.first as usize);
-    let q = survey::known_at(survey, l.second as usize);
-    p.near + l.length as u64 + q.near
-}
-
 // A climb that begins in T(x), up to x.
 fn climb_to(survey: &[u64], first: Side, x: usize) -> Side
     requires { ⌜ ((g : Net) × Rising g (now survey) x first) ⌝ }
@@ -747,6 +865,7 @@ fn climb_to(survey: &[u64], first: Side, x: usize) -> Side
 
 // The entry of x with one more link, e, which crosses x; `first` says whether its end in T(x) is the first.
 fn with_crossed(
+    links: &[u16],
     search: Search,
     survey: &[u64],
     x: usize,
@@ -755,10 +874,10 @@ fn with_crossed(
     l: Link,
     first: bool,
 ) -> Entry
-    requires { ⌜ ((g : Net) × Crossed g search (now survey) x e l first × (old ≡ entry (firstLinks g e) x)) ⌝ }
+    requires { ⌜ ((g : Net) × Crossed g search (now links) (now survey) x e l first × (old ≡ entry (firstLinks g e) x)) ⌝ }
     ensures { λ r.
         ⌜ ((g : Net)
-        → Crossed g search (now (survey .entry)) x e l first
+        → Crossed g search (now (links .entry)) (now (survey .entry)) x e l first
         → old ≡ entry (firstLinks g e) x
         → r ≡ entry (firstLinks g (e + 1)) x) ⌝ }
 {
@@ -766,7 +885,8 @@ fn with_crossed(
     let c = costs_of(survey, side, way_through(survey, l));
     let climb = side.climb;
     let near_enough = is_within(search.depth, climb.hops);
-    with_link(old, near_enough, e as u64, side.lower, c)
+    let standing = standing_of(search.rule, links, survey, x, old, c);
+    with_link(old, standing, near_enough, e as u64, side.lower, c)
 }
 
 // The entry of x with one more link, e. A link that does not cross x leaves it.
@@ -797,7 +917,7 @@ fn with_next(
     if first == is_below(ranks, x, l.second as usize) {
         return old;
     }
-    with_crossed(search, survey, x, old, e, l, first)
+    with_crossed(links, search, survey, x, old, e, l, first)
 }
 
 // The entry of x, from that before any link on, link after link.

@@ -19,6 +19,6 @@ headIn bytes =
     record {
       nodes = wordIn bytes 0;
       links = wordIn bytes 1;
-      search = record { root = wordIn bytes 2; depth = wordIn bytes 3 };
+      search = record { root = wordIn bytes 2; depth = wordIn bytes 3; rule = wordIn bytes 5 };
       count = wordIn bytes 4;
     }

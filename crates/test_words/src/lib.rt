@@ -1,4 +1,4 @@
-// Input as 16-bit words, the high byte first: a head of five words, as many parents and records of links as it says, and
+// Input as 16-bit words, the high byte first: a head of six words, as many parents and records of links as it says, and
 // whatever else a program reads.
 ghost use mathlib.Core.Path.{_≡_};
 ghost use lib.ListN.{length};
@@ -6,7 +6,7 @@ ghost use Rattle.test_words.specs.Words.{wordIn, wordsIn, headIn};
 use edition::Search;
 
 // Words of the head.
-pub const HEAD: usize = 5;
+pub const HEAD: usize = 6;
 
 // The head: how many nodes and links follow, the search, and one more number, which each program has its own use for.
 pub struct Head {
@@ -33,6 +33,7 @@ pub fn head_of(bytes: &[u8]) -> Head
     let search = Search {
         root: word(bytes, 2),
         depth: word(bytes, 3),
+        rule: word(bytes, 5),
     };
     Head {
         nodes: word(bytes, 0) as usize,

@@ -9,10 +9,10 @@ pub mod raw;
 
 /// The version of the interface that these calls are made for. What is linked refers to it by name, so a library of another
 /// version does not link.
-pub const VERSION: u32 = 5;
+pub const VERSION: u32 = 6;
 
 #[used]
-static MADE_FOR: unsafe extern "C" fn() -> u32 = raw::doeragyeol_version_5;
+static MADE_FOR: unsafe extern "C" fn() -> u32 = raw::doeragyeol_version_6;
 
 /// The most nodes and links there are.
 pub const NODES: usize = 512;
@@ -78,11 +78,21 @@ impl std::fmt::Display for Refusal {
 
 impl std::error::Error for Refusal {}
 
+/// Which candidate is the swap link of those that cost least under a measure: the one with the lowest number; or the one with
+/// the lowest incr cost, which raises the failed node's own distance least, and of those the one with the lowest number. The
+/// value is the rule's number.
+#[derive(Clone, Copy, PartialEq, Eq, Debug)]
+pub enum Rule {
+    LowestNumber = 0,
+    NearerFirst = 1,
+}
+
 /// The numbers that a caller names beside the rows of a network.
 #[derive(Clone, Copy, PartialEq, Eq, Debug)]
 pub struct Search {
     pub root: u16,
     pub depth: u16,
+    pub rule: Rule,
 }
 
 /// How large a network is.
@@ -177,6 +187,7 @@ pub fn check(links: &[u16], parents: &[u16], search: Search) -> Result<Sizes, Re
             parents.len(),
             search.root,
             search.depth,
+            search.rule as u16,
             sizes.as_mut_ptr(),
             sizes.len(),
         )
@@ -202,6 +213,7 @@ pub fn table(
             parents.len(),
             search.root,
             search.depth,
+            search.rule as u16,
             entries.as_mut_ptr(),
             entries.len(),
         )
@@ -224,6 +236,7 @@ pub fn map(
             parents.len(),
             search.root,
             search.depth,
+            search.rule as u16,
             words.as_mut_ptr(),
             words.len(),
             told.as_mut_ptr(),
@@ -236,7 +249,7 @@ pub fn map(
     })
 }
 
-/// The change of one link. A table that was right is right again.
+/// The change of one link. A table that was right by this depth and rule is right again.
 pub fn change(
     links: &mut [u16],
     parents: &[u16],
@@ -252,6 +265,7 @@ pub fn change(
             parents.len(),
             search.root,
             search.depth,
+            search.rule as u16,
             entries.as_mut_ptr(),
             entries.len(),
             change.link,
@@ -261,11 +275,13 @@ pub fn change(
     })
 }
 
-/// The file of a network and depth, at the beginning of `file`, and its length.
+/// The file of a network and depth, at the beginning of `file`, and its length. A file of edition 1 means `Rule::LowestNumber`,
+/// so no rule is taken.
 pub fn write(
     links: &[u16],
     parents: &[u16],
-    search: Search,
+    root: u16,
+    depth: u16,
     file: &mut [u8],
 ) -> Result<usize, Refusal> {
     let mut size = [0; 1];
@@ -275,8 +291,8 @@ pub fn write(
             links.len(),
             parents.as_ptr(),
             parents.len(),
-            search.root,
-            search.depth,
+            root,
+            depth,
             file.as_mut_ptr(),
             file.len(),
             size.as_mut_ptr(),
@@ -286,7 +302,8 @@ pub fn write(
     Ok(size[0] as usize)
 }
 
-/// What a file holds, at the beginning of the rows, and what its header says.
+/// What a file holds, at the beginning of the rows, and what its header says. A file of edition 1 means
+/// `Rule::LowestNumber`.
 pub fn read(
     file: &[u8],
     links: &mut [u16],
@@ -314,6 +331,7 @@ pub fn read(
         search: Search {
             root: header[2] as u16,
             depth: header[3] as u16,
+            rule: Rule::LowestNumber,
         },
     })
 }
@@ -342,6 +360,7 @@ pub fn forward<'a>(
             parents.len(),
             search.root,
             search.depth,
+            search.rule as u16,
             failure.start,
             failure.failed,
             ordinary.as_mut_ptr(),
@@ -364,8 +383,8 @@ pub fn forward<'a>(
     })
 }
 
-/// The length of the tree path between two nodes. It asks the tree alone: no depth, and no check of the network. The library's
-/// part of the call takes at most `DISTANCE_STACK` bytes of stack.
+/// The length of the tree path between two nodes. It asks the tree alone: no depth, no rule, and no check of the network. The
+/// library's part of the call takes at most `DISTANCE_STACK` bytes of stack.
 pub fn distance(
     links: &[u16],
     parents: &[u16],

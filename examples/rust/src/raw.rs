@@ -2,7 +2,7 @@
 
 #[link(name = "doeragyeol", kind = "static")]
 extern "C" {
-    pub fn doeragyeol_version_5() -> u32;
+    pub fn doeragyeol_version_6() -> u32;
 
     pub fn doeragyeol_check(
         links: *const u16,
@@ -11,6 +11,7 @@ extern "C" {
         parents_length: usize,
         root: u16,
         depth: u16,
+        rule: u16,
         sizes: *mut u64,
         sizes_length: usize,
     ) -> u32;
@@ -22,6 +23,7 @@ extern "C" {
         parents_length: usize,
         root: u16,
         depth: u16,
+        rule: u16,
         entries: *mut u64,
         entries_length: usize,
     ) -> u32;
@@ -33,6 +35,7 @@ extern "C" {
         parents_length: usize,
         root: u16,
         depth: u16,
+        rule: u16,
         words: *mut u64,
         words_length: usize,
         told: *mut u64,
@@ -46,6 +49,7 @@ extern "C" {
         parents_length: usize,
         root: u16,
         depth: u16,
+        rule: u16,
         entries: *mut u64,
         entries_length: usize,
         link: u16,
@@ -86,6 +90,7 @@ extern "C" {
         parents_length: usize,
         root: u16,
         depth: u16,
+        rule: u16,
         start: u16,
         failed: u16,
         ordinary: *mut u16,
@@ -103,6 +108,7 @@ extern "C" {
         parents_length: usize,
         root: u16,
         depth: u16,
+        rule: u16,
         start: u16,
         failed: u16,
         ordinary: *mut u16,
@@ -120,6 +126,7 @@ extern "C" {
         parents_length: usize,
         root: u16,
         depth: u16,
+        rule: u16,
         start: u16,
         failed: u16,
         ordinary: *mut u16,

@@ -35,6 +35,10 @@ fn changed(h: &mut Harbour, link: u16, mark: u16, length: u16) -> Result<(), Ref
     change(&mut h.links, &h.parents, h.search, &mut h.entries, asked)
 }
 
+fn written(h: &Harbour, file: &mut [u8]) -> Result<usize, Refusal> {
+    write(&h.links, &h.parents, h.search.root, h.search.depth, file)
+}
+
 fn refused<T>(number: u32, place: u32) -> Result<T, Refusal> {
     Err(Refusal { number, place })
 }
@@ -45,6 +49,7 @@ fn reads() {
     let search = Search {
         root: 0,
         depth: WHOLE,
+        rule: Rule::LowestNumber,
     };
     assert_eq!(h.search, search);
     assert_eq!(h.parents, [NO_LINK, 0, 1, 2, 6]);
@@ -89,7 +94,7 @@ fn checks() {
     assert_eq!(check(&h.links, &h.parents, h.search), Ok(sizes));
     let no_node = Search {
         root: 5,
-        depth: WHOLE,
+        ..h.search
     };
     assert_eq!(check(&h.links, &h.parents, no_node), refused(3, 0));
     assert_eq!(check(&[], &[], h.search), refused(1, 0));
@@ -138,15 +143,12 @@ fn a_taken_change_leaves_the_right_table() {
 fn writes_what_was_read() {
     let mut h = harbour();
     let mut file = vec![7; FILE_BYTES];
-    assert_eq!(
-        write(&h.links, &h.parents, h.search, &mut file),
-        Ok(FILE.len())
-    );
+    assert_eq!(written(&h, &mut file), Ok(FILE.len()));
     assert_eq!(&file[..FILE.len()], FILE);
     assert!(file[FILE.len()..].iter().all(|&byte| byte == 7));
 
     assert_eq!(changed(&mut h, 3, WITHDRAWN, 6), Ok(()));
-    let length = write(&h.links, &h.parents, h.search, &mut file).expect("a sound network");
+    let length = written(&h, &mut file).expect("a sound network");
     let (mut links, mut parents, mut entries) = ([0; 28], [0; 5], [0; 50]);
     let header = read(&file[..length], &mut links, &mut parents, &mut entries);
     assert_eq!(header.map(|header| header.search), Ok(h.search));
@@ -163,10 +165,7 @@ fn a_short_row_is_refused() {
     );
     assert!(entries.iter().all(|&number| number == 7));
     let mut file = vec![7; FILE.len() - 1];
-    assert_eq!(
-        write(&h.links, &h.parents, h.search, &mut file),
-        refused(10, 0)
-    );
+    assert_eq!(written(&h, &mut file), refused(10, 0));
     assert!(file.iter().all(|&byte| byte == 7));
 }
 
@@ -309,6 +308,7 @@ fn a_short_row_for_a_way_is_refused() {
                 h.parents.len(),
                 h.search.root,
                 h.search.depth,
+                h.search.rule as u16,
                 start,
                 1,
                 ordinary.as_mut_ptr(),
@@ -461,7 +461,11 @@ fn the_longest_distance() {
                 _ => NO_LINK,
             })
             .collect();
-        let search = Search { root, depth: WHOLE };
+        let search = Search {
+            root,
+            depth: WHOLE,
+            rule: Rule::LowestNumber,
+        };
         assert!(check(&links, &parents, search).is_ok());
         let apart = |from, to| distance(&links, &parents, root, from, to);
         assert_eq!(apart(0, 511), Ok(33_488_385));

@@ -10,6 +10,7 @@ use crate::network::Rows;
 use crate::probe::*;
 use crate::random;
 use crate::rng::Rng;
+use crate::terms::Terms;
 
 /// A change as the words a, b, c: link, mark, length.
 pub type Words = [u16; 3];
@@ -76,7 +77,7 @@ fn harbour_changes() -> Vec<Words> {
 /// the refused ones: tree link, bad mark, no such link.
 fn every_change(rows: &Rows, links: usize) -> Vec<Words> {
     let net = rows.lend();
-    let tree = match check(&net, WHOLE) {
+    let tree = match check(&net, Terms::by_number(WHOLE)) {
         Ok(tree) => tree,
         Err(_) => return Vec::new(),
     };
@@ -145,7 +146,7 @@ fn faulty(op: u16) -> Vec<Case> {
             let sound = random::rich_network(&mut rng);
             let words = some_change(&mut rng, &sound, kind);
             let faulty = Faulty::new(&sound, WHOLE).with(&mut rng, &[why]);
-            let mut case = case(op, &faulty.rows, faulty.depth, words);
+            let mut case = case(op, &faulty.rows, faulty.depth, words).by(faulty.rule);
             case.room = need(op, &sound).saturating_sub(rng.below(2));
             cases.push(case);
         }
@@ -178,7 +179,7 @@ pub fn some_change(rng: &mut Rng, rows: &Rows, kind: usize) -> Words {
 pub fn change_of(rng: &mut Rng, rows: &Rows, e: u16, kind: usize) -> Words {
     let net = rows.lend();
     let m = net.m();
-    let tree = check(&net, WHOLE).expect("the network is sound");
+    let tree = check(&net, Terms::by_number(WHOLE)).expect("the network is sound");
     let least = least_length(&net, &tree, e as usize).min(u64::from(LONGEST)) as u16;
     let length = net.link(e as usize).length;
     match kind {
@@ -209,6 +210,7 @@ pub fn random(rng: &mut Rng, op: u16) -> Case {
         case.parents = faulty.rows.parents;
         case.links = faulty.rows.links;
         case.root = faulty.rows.root;
+        case.rule = faulty.rule;
     }
     case
 }

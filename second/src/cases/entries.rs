@@ -21,13 +21,17 @@ pub fn chosen(op: u16) -> Vec<Case> {
     let mut list = nodes();
     list.extend(no_nodes());
     list.extend(at_most());
-    list.extend(faulty());
-    let case = |(rows, depth, a): &Asked| {
-        let mut case = Case::over(op, rows, *depth, 0);
-        case.abc[0] = *a;
-        case
-    };
-    list.iter().map(case).collect()
+    let sound = list
+        .iter()
+        .map(|(rows, depth, a)| case(op, rows, *depth, *a));
+    sound.chain(faulty(op)).collect()
+}
+
+/// A case that asks a number.
+pub fn case(op: u16, rows: &Rows, depth: u16, a: u16) -> Case {
+    let mut case = Case::over(op, rows, depth, 0);
+    case.abc[0] = a;
+    case
 }
 
 /// Every node of Harbour at every kind of depth, and of the networks that
@@ -81,18 +85,18 @@ fn at_most() -> Vec<Asked> {
     ]
 }
 
-/// Harbour with a fault for each refusal of a network, asked of node 3 and of
+/// Harbour with a fault for each refusal of a check, asked of node 3 and of
 /// the first number that is no node; and a cycle, asked beside it.
-fn faulty() -> Vec<Asked> {
+fn faulty(op: u16) -> Vec<Case> {
     let mut rng = Rng::new(0);
     let sound = harbour();
     let mut list = Vec::new();
     for why in NETWORK_FAULTS {
-        let Faulty { rows, depth, .. } = Faulty::new(&sound, WHOLE).with(&mut rng, &[why]);
-        let n = rows.parents.len() as u16;
-        list.push((rows.clone(), depth, 3));
-        list.push((rows, depth, n));
+        let faulty = Faulty::new(&sound, WHOLE).with(&mut rng, &[why]);
+        let n = faulty.rows.parents.len() as u16;
+        let asked = [3, n].map(|a| case(op, &faulty.rows, faulty.depth, a));
+        list.extend(asked.map(|case| case.by(faulty.rule)));
     }
-    list.push((cycles().swap_remove(4), WHOLE, 1));
+    list.push(case(op, &cycles().swap_remove(4), WHOLE, 1));
     list
 }

@@ -16,9 +16,10 @@ use crate::refusal::Why;
 use crate::rng::Rng;
 use crate::routes::route_of;
 use crate::shapes::Draft;
+use crate::terms::Terms;
 
 /// Start, failed node and measure, as the words a, b, c.
-type Words = [u16; 3];
+pub type Words = [u16; 3];
 
 /// Lengths of a row at its limits.
 const ROOMS: [usize; 6] = [0, 1, ROUTE_ROW - 1, ROUTE_ROW, ROUTE_ROW + 1, PROBE_ROUTE];
@@ -27,11 +28,12 @@ const ROOMS: [usize; 6] = [0, 1, ROUTE_ROW - 1, ROUTE_ROW, ROUTE_ROW + 1, PROBE_
 const MEASURE_WORDS: [u16; 9] = [0, 1, 2, 3, 4, 5, 65_533, 65_534, 65_535];
 
 /// A case whose rows are just long enough.
-fn case(rows: &Rows, depth: u16, words: Words) -> Case {
+pub fn case(rows: &Rows, depth: u16, words: Words) -> Case {
     in_rooms(rows, depth, words, [ROUTE_ROW; 2])
 }
 
-fn in_rooms(rows: &Rows, depth: u16, words: Words, rooms: [usize; 2]) -> Case {
+/// A case whose rows have these lengths.
+pub fn in_rooms(rows: &Rows, depth: u16, words: Words, rooms: [usize; 2]) -> Case {
     let mut case = Case::over(FORWARD, rows, depth, two_rooms(rooms));
     case.abc = words;
     case
@@ -317,8 +319,10 @@ fn wrong_network() -> Vec<Case> {
     let sound = harbour();
     let mut cases = Vec::new();
     for why in NETWORK_FAULTS {
-        let Faulty { rows, depth, .. } = Faulty::new(&sound, WHOLE).with(&mut rng, &[why]);
-        cases.push(in_rooms(&rows, depth, [NO_NODE, NO_NODE, 0], [0; 2]));
+        let faulty = Faulty::new(&sound, WHOLE).with(&mut rng, &[why]);
+        let wrong = [NO_NODE, NO_NODE, 0];
+        let case = in_rooms(&faulty.rows, faulty.depth, wrong, [0; 2]);
+        cases.push(case.by(faulty.rule));
     }
     cases
 }
@@ -348,7 +352,7 @@ fn cut_rows() -> Vec<Case> {
 /// root and of any node. Nothing of a network that is refused.
 fn asks(rows: &Rows, failed: usize) -> Vec<Words> {
     let net = rows.lend();
-    let tree = match check(&net, WHOLE) {
+    let tree = match check(&net, Terms::by_number(WHOLE)) {
         Ok(tree) => tree,
         Err(_) => return Vec::new(),
     };
@@ -431,13 +435,13 @@ fn with_both(rng: &mut Rng, why: Why, fault: Fault) -> Case {
         Fault::RootFailed => words[1] = faulty.rows.root,
         Fault::NoSwap => words[..2].copy_from_slice(&[bridge + rng.below(2) as u16, bridge]),
     }
-    in_rooms(&faulty.rows, faulty.depth, words, rooms)
+    in_rooms(&faulty.rows, faulty.depth, words, rooms).by(faulty.rule)
 }
 
 /// A random network, mostly sound, with a failed node that often lies on the
 /// start's route, and rows that are mostly long enough.
 pub fn random(rng: &mut Rng) -> Case {
-    let (rows, depth) = some_network(rng);
+    let (rows, terms) = some_network(rng);
     let start = some_start(rng, &rows);
     let failed = some_failed(rng, &rows, start);
     let measure = match rng.below(8) {
@@ -445,19 +449,20 @@ pub fn random(rng: &mut Rng) -> Case {
         _ => rng.below(MEASURES) as u16,
     };
     let rooms = [some_room(rng), some_room(rng)];
-    in_rooms(&rows, depth, [start, failed, measure], rooms)
+    in_rooms(&rows, terms.depth, [start, failed, measure], rooms).by(terms.rule)
 }
 
-fn some_network(rng: &mut Rng) -> (Rows, u16) {
+fn some_network(rng: &mut Rng) -> (Rows, Terms) {
     let depth = random::depth(rng);
     if rng.chance(88) {
-        return (random::network(rng), depth);
+        return (random::network(rng), Terms::by_number(depth));
     }
     let sound = random::rich_network(rng);
     let faults = [rng.pick(&NETWORK_FAULTS), rng.pick(&NETWORK_FAULTS)];
     let many = rng.from_to(1, 2);
     let faulty = Faulty::new(&sound, depth).with(rng, &faults[..many]);
-    (faulty.rows, faulty.depth)
+    let Faulty { depth, rule, .. } = faulty;
+    (faulty.rows, Terms { depth, rule })
 }
 
 fn no_node(rng: &mut Rng, rows: &Rows) -> u16 {

@@ -11,19 +11,22 @@ mod forwards;
 mod marks;
 mod networks;
 mod routes;
+mod rules;
 mod series;
 
 use crate::file_faults::sound_file;
-use crate::limits::{PROBE_ROOM, ROUTE_ROW, WHOLE};
+use crate::limits::{LOWEST_NUMBER, NEARER_FIRST, PROBE_ROOM, ROUTE_ROW, WHOLE};
 use crate::named::large;
 use crate::probe::*;
+use crate::random;
 use crate::rng::Rng;
+use crate::ties;
 
 pub use asked::chosen;
 pub use endings::ENDINGS;
 pub use series::series;
 
-/// The fixed cases of an op but for those of the lower ends.
+/// The fixed cases of an op but for those of the lower ends and of the rule.
 fn plain(op: u16) -> Vec<Case> {
     match op {
         CHECK | TABLE | MAP | WRITE => networks::fixed(op),
@@ -37,11 +40,19 @@ fn plain(op: u16) -> Vec<Case> {
 
 /// The fixed cases of an op.
 pub fn fixed(op: u16) -> Vec<Case> {
-    [plain(op), marks::chosen(op)].concat()
+    [plain(op), marks::chosen(op), rules::fixed(op)].concat()
 }
 
-/// A random case of an op.
+/// A random case of an op, by a random rule where none was chosen for it.
 pub fn random(rng: &mut Rng, op: u16) -> Case {
+    let mut case = by_number(rng, op);
+    if case.rule == LOWEST_NUMBER {
+        case.rule = random::rule(rng);
+    }
+    case
+}
+
+fn by_number(rng: &mut Rng, op: u16) -> Case {
     match op {
         CHECK | TABLE | MAP | WRITE => networks::random(rng, op),
         CHANGE | CHANGE_UNFILLED => changes::random(rng, op),
@@ -69,8 +80,9 @@ pub fn input(ops: &[u16], seed: u64, count: usize) -> Vec<u8> {
 }
 
 /// Cases of every op that are kept with the probe: of the fixed ones that are
-/// not long the first, and of the others one in ten; and all of the lower ends.
-/// Of the forwarder and of the project's own ops those that are chosen.
+/// not long the first, and about as many of the others; and all of the lower ends
+/// and of the rule. Of the forwarder and of the project's own ops those that are
+/// chosen.
 pub fn kept() -> Vec<u8> {
     let mut out = Vec::new();
     for op in CHECK..=PAYLOAD_OF {
@@ -81,14 +93,31 @@ pub fn kept() -> Vec<u8> {
         let all = plain(op).into_iter().map(|case| case.encode());
         let short: Vec<Vec<u8>> = all.filter(|bytes| bytes.len() <= longest).collect();
         let (begin, rest) = short.split_at(first);
-        let some = rest.iter().step_by(10).take(first);
+        let some = rest.iter().step_by((rest.len() / first).max(1));
         begin.iter().chain(some).for_each(|case| out.extend(case));
-        let ends = marks::chosen(op);
-        ends.iter().for_each(|case| out.extend(case.encode()));
+        let more = [marks::chosen(op), rules::chosen(op)].concat();
+        more.iter().for_each(|case| out.extend(case.encode()));
     }
-    let own = (ROUTE..=NODE).flat_map(chosen);
-    let more = forwards::chosen().into_iter().chain(own);
-    more.for_each(|case| out.extend(case.encode()));
+    let ways = (FORWARD, forwards::chosen());
+    let own = (ROUTE..=NODE).map(|op| (op, chosen(op)));
+    for (op, cases) in [ways].into_iter().chain(own) {
+        let all = [cases, rules::chosen(op)].concat();
+        all.iter().for_each(|case| out.extend(case.encode()));
+    }
+    out
+}
+
+/// Tables of `count` networks on which many candidates tie, each by rule 0 and
+/// then by rule 1, at the whole search. The same arguments give the same bytes.
+pub fn tied(seed: u64, count: usize) -> Vec<u8> {
+    let mut rng = Rng::new(seed);
+    let mut out = Vec::new();
+    for _ in 0..count {
+        let rows = ties::network(&mut rng);
+        let case = Case::over(TABLE, &rows, WHOLE, networks::need(TABLE, &rows));
+        out.extend(case.encode());
+        out.extend(case.by(NEARER_FIRST).encode());
+    }
     out
 }
 

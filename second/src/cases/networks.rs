@@ -121,7 +121,7 @@ fn with_faults(rng: &mut Rng, op: u16, faults: &[Why], short: bool) -> Case {
     let faulty = Faulty::new(&sound, depth).with(rng, faults);
     let room = need(op, &sound);
     let room = if short { room.saturating_sub(1) } else { room };
-    Case::over(op, &faulty.rows, faulty.depth, room)
+    Case::over(op, &faulty.rows, faulty.depth, room).by(faulty.rule)
 }
 
 /// Parents that lead round: two nodes, with nodes of lower number hanging
@@ -183,5 +183,5 @@ pub fn random(rng: &mut Rng, op: u16) -> Case {
     let faults = if kind < 9 { vec![one] } else { vec![one, two] };
     let faulty = Faulty::new(&sound, WHOLE).with(rng, &faults);
     let room = random::room(rng, need(op, &sound));
-    Case::over(op, &faulty.rows, faulty.depth, room)
+    Case::over(op, &faulty.rows, faulty.depth, room).by(faulty.rule)
 }

@@ -8,18 +8,22 @@ use crate::network::Rows;
 use crate::random;
 use crate::rng::Rng;
 use crate::series::Series;
+use crate::terms::Terms;
+use crate::ties;
 
 /// Links outside the tree that a series changes again and again.
 const FAVOURED: usize = 6;
 
 /// A random network of a size that the seed chooses, with withdrawn links to
 /// set in service. Each eighth seed fills the limits of the links, and those
-/// of the nodes as far as the shape allows.
+/// of the nodes as far as the shape allows; another gives a network on which many
+/// candidates tie.
 fn network(rng: &mut Rng, seed: u64) -> Rows {
     let n = match seed % 8 {
         0 => MOST_NODES,
         1 => rng.from_to(71, 300),
         2 | 3 => rng.from_to(13, 70),
+        4 => return ties::network(rng),
         _ => rng.from_to(2, 12),
     };
     let draft = random::draft(rng, n);
@@ -63,7 +67,11 @@ pub fn series(seed: u64, count: usize) -> Series {
     let mut rng = Rng::new(seed);
     let first = network(&mut rng, seed);
     let depth = rng.pick(&[WHOLE, WHOLE, WHOLE, 0, 1, 2, 5, DEEPEST]);
-    let tree = check(&first.lend(), depth).expect("the network is sound");
+    let terms = Terms {
+        depth,
+        rule: rng.pick(&[LOWEST_NUMBER, NEARER_FIRST]),
+    };
+    let tree = check(&first.lend(), terms).expect("the network is sound");
     let favoured = favoured(&mut rng, &first);
     let (mut rows, mut changes) = (first.clone(), Vec::new());
     for _ in 0..count {
@@ -76,7 +84,7 @@ pub fn series(seed: u64, count: usize) -> Series {
     }
     Series {
         rows: first,
-        depth,
+        terms,
         changes,
     }
 }

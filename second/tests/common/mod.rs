@@ -4,12 +4,23 @@
 
 use second::network::Rows;
 use second::refusal::Refusal;
+use second::terms::Terms;
 
 pub const NONE: u64 = 65_535;
 
 /// A refusal as number and place.
 pub fn told<T>(answer: Result<T, Refusal>) -> Result<T, (u16, usize)> {
     answer.map_err(|refusal| (refusal.number(), refusal.place))
+}
+
+/// A depth by rule 0.
+pub fn at(depth: u16) -> Terms {
+    Terms { depth, rule: 0 }
+}
+
+/// A depth by a rule.
+pub fn by(rule: u16, depth: u16) -> Terms {
+    Terms { depth, rule }
 }
 
 /// Rows from ends and lengths, all links in service.

@@ -93,15 +93,38 @@ pub fn costs(rows: &Rows, x: usize, (e, z, outer): (usize, usize, usize)) -> [u6
     [all.iter().sum(), incr as u64, *all.iter().max().unwrap()]
 }
 
-/// The best of links with costs: least cost, then lowest number.
-pub fn best(priced: &[(usize, [u64; 3])], measure: usize) -> (u64, u64) {
-    let mut best = (priced[0].1[measure], priced[0].0);
-    for &(e, costs) in priced {
-        if costs[measure] < best.0 || (costs[measure] == best.0 && e < best.1) {
-            best = (costs[measure], e);
+/// A link with its sum, incr and max.
+pub type Priced = (usize, [u64; 3]);
+
+/// Whether one candidate is to be taken rather than another: it costs less; or
+/// as much, and by rule 1 has the lower incr; or ties in that too, and has the
+/// lower number.
+pub fn is_better(one: Priced, other: Priced, measure: usize, rule: u16) -> bool {
+    let ((e, costs), (f, others)) = (one, other);
+    if costs[measure] != others[measure] {
+        return costs[measure] < others[measure];
+    }
+    if rule == 1 && costs[1] != others[1] {
+        return costs[1] < others[1];
+    }
+    e < f
+}
+
+/// The best of links with costs by a rule: its number, and its cost.
+pub fn best(priced: &[Priced], measure: usize, rule: u16) -> (u64, u64) {
+    let mut best = priced[0];
+    for &link in priced {
+        if is_better(link, best, measure, rule) {
+            best = link;
         }
     }
-    (best.1 as u64, best.0)
+    (best.0 as u64, best.1[measure])
+}
+
+/// The candidates of x with their costs.
+pub fn priced(rows: &Rows, depth: u16, x: usize) -> Vec<Priced> {
+    let links = candidates(rows, depth, x).into_iter();
+    links.map(|c| (c.0, costs(rows, x, c))).collect()
 }
 
 /// 0 where the route of a link's first end goes by x, else 1.
@@ -110,8 +133,8 @@ pub fn lower(rows: &Rows, x: usize, e: usize) -> u64 {
     u64::from(!route(rows, first).contains(&x))
 }
 
-/// The entry of x as plain numbers.
-pub fn entry(rows: &Rows, depth: u16, x: usize) -> [u64; 10] {
+/// The entry of x by a rule, as plain numbers.
+pub fn entry(rows: &Rows, depth: u16, rule: u16, x: usize) -> [u64; 10] {
     let without = |state: u64| [state, 65_535, 65_535, 65_535, 0, 0, 0, 0, 0, 0];
     if x == rows.root as usize {
         return without(0);
@@ -119,18 +142,17 @@ pub fn entry(rows: &Rows, depth: u16, x: usize) -> [u64; 10] {
     if crossing(rows, x).is_empty() {
         return without(3);
     }
-    let near = candidates(rows, depth, x);
+    let near = priced(rows, depth, x);
     if near.is_empty() {
         return without(2);
     }
-    let priced: Vec<_> = near.iter().map(|&c| (c.0, costs(rows, x, c))).collect();
-    let [s, i, m] = [0, 1, 2].map(|k| best(&priced, k));
+    let [s, i, m] = [0, 1, 2].map(|k| best(&near, k, rule));
     let [ls, li, lm] = [s, i, m].map(|(e, _)| lower(rows, x, e as usize));
     [1, s.0, i.0, m.0, s.1, i.1, m.1, ls, li, lm]
 }
 
-/// The table as plain numbers.
-pub fn table(rows: &Rows, depth: u16) -> Vec<u64> {
+/// The table by a rule, as plain numbers.
+pub fn table(rows: &Rows, depth: u16, rule: u16) -> Vec<u64> {
     let nodes = 0..rows.parents.len();
-    nodes.flat_map(|x| entry(rows, depth, x)).collect()
+    nodes.flat_map(|x| entry(rows, depth, rule, x)).collect()
 }

@@ -22,9 +22,19 @@ two-at-requires-4 c κs = search needs
 cast-t6 : tie.Need-cast-t6
 cast-t6 c = search needs
 
+by-number-requires : tie.Need-by-number-requires
+by-number-requires c κs = search needs
+
 returns : tie.Need-returns
 unfolding headRead nodesRead linksRead searchRead
-returns c = cc
+returns c =
+    rw (
+      c .by-number .ensures,
+      c .before .before .before .before .two-at .ensures,
+      c .before .before .before .two-at2 .ensures,
+      c .before .before .two-at3 .ensures,
+      c .before .two-at4 .ensures,
+    )
 
 pub header-of-spec : {M : Type 1} → statement M
 header-of-spec =
@@ -36,4 +46,5 @@ header-of-spec =
     cast-t5
     two-at-requires-4
     cast-t6
+    by-number-requires
     returns)

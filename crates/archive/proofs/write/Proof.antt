@@ -1,10 +1,14 @@
 -- `archive::write` meets its contract. Assumes nothing.
+use Rattle.archive.proofs.WriterAnswer.{answer-meant}
 use mathlib.Core.Path.{refl, sym, _∙_}
 use Rattle.archive.proofs.Tabling.{bare-net, bare-tabled}
 use Rattle.archive.proofs.WriterAnswer.{write-unsound}
 use borrow.Author.Needs.{needs}
 use Rattle.archive.proofs.write.Statement.{statement}
 use Rattle.archive.proofs.write.Tie as tie
+
+by-number-requires : tie.Need-by-number-requires
+by-number-requires c κs = search needs
 
 slice-aggregate-table : tie.Need-slice-aggregate-table
 slice-aggregate-table c = search needs
@@ -30,17 +34,23 @@ same-length : tie.Need-same-length
 same-length c = search needs
 
 returns : tie.Need-returns
-returns c = search needs
+returns c =
+    let write-tabled = c .before .before .write-tabled in
+    let by-number = c .before .before .before .before .before .before .before .before .before .before .by-number in
+    answer-meant _ _ _ (by-number .ensures) _ (write-tabled .ensures)
 
 returns-2 : tie.Need-returns-2
 returns-2 c =
     let table = c .before .before .before .before .table in
-    write-unsound _ _ _ _ _ (sym (bare-net _ _ refl _ (table .ensures .0)) ∙ c .before .said .given .1)
+    let by-number = c .before .before .before .before .before .before .by-number in
+    answer-meant _ _ _ (by-number .ensures) _
+    (write-unsound _ _ _ _ _ (sym (bare-net _ _ refl _ (table .ensures .0)) ∙ c .before .said .given .1))
 
 pub write-spec : {M : Type 1} → statement M
 write-spec =
     tie.close
     (tie.spec
+    by-number-requires
     slice-aggregate-table
     table-requires
     enum-told

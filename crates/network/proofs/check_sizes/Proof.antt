@@ -64,22 +64,55 @@ returns-3 c =
 check-depth-requires : tie.Need-check-depth-requires
 check-depth-requires c κs = search needs
 
+enum-told-7 : tie.Need-enum-told-7
+enum-told-7 c = search needs
+
+enum-told-8 : tie.Need-enum-told-8
+enum-told-8 c = search needs
+
 returns-4 : tie.Need-returns-4
 unfolding sizeVerdict firstly
 returns-4 c =
-    let check-root = c .before .before .before .check-root in
-    let enum-told3 = c .before .before .before .before .enum-told3 in
-    let check-links = c .before .before .before .before .before .before .check-links in
-    let enum-told = c .before .before .before .before .before .before .before .enum-told in
-    let check-nodes = c .before .before .before .before .before .before .before .before .before .check-nodes in
+    let enum-told5 = c .before .before .before .enum-told5 in
+    let check-root = c .before .before .before .before .before .check-root in
+    let enum-told3 = c .before .before .before .before .before .before .enum-told3 in
+    let check-links = c .before .before .before .before .before .before .before .before .check-links in
+    let enum-told = c .before .before .before .before .before .before .before .before .before .enum-told in
+    let check-nodes = c .before .before .before .before .before .before .before .before .before .before .before .check-nodes in
     rw (
       ← check-nodes .ensures,
       enum-told .given .1,
       ← check-links .ensures,
       enum-told3 .given .1,
       ← check-root .ensures,
-      c .before .enum-told5 .given .1,
-    ) (c .check-depth .ensures ∙ sym (only-one _))
+      enum-told5 .given .1,
+      ← c .before .before .check-depth .ensures,
+      c .enum-told8 .given .1,
+    )
+
+check-rule-requires : tie.Need-check-rule-requires
+check-rule-requires c κs = search needs
+
+returns-5 : tie.Need-returns-5
+unfolding sizeVerdict firstly
+returns-5 c =
+    let check-depth = c .before .before .before .check-depth in
+    let enum-told5 = c .before .before .before .before .enum-told5 in
+    let check-root = c .before .before .before .before .before .before .check-root in
+    let enum-told3 = c .before .before .before .before .before .before .before .enum-told3 in
+    let check-links = c .before .before .before .before .before .before .before .before .before .check-links in
+    let enum-told = c .before .before .before .before .before .before .before .before .before .before .enum-told in
+    let check-nodes = c .before .before .before .before .before .before .before .before .before .before .before .before .check-nodes in
+    rw (
+      ← check-nodes .ensures,
+      enum-told .given .1,
+      ← check-links .ensures,
+      enum-told3 .given .1,
+      ← check-root .ensures,
+      enum-told5 .given .1,
+      ← check-depth .ensures,
+      c .before .enum-told7 .given .1,
+    ) (c .check-rule .ensures ∙ sym (only-one _))
 
 pub check-sizes-spec : {M : Type 1} → statement M
 check-sizes-spec =
@@ -98,4 +131,8 @@ check-sizes-spec =
     enum-told-6
     returns-3
     check-depth-requires
-    returns-4)
+    enum-told-7
+    enum-told-8
+    returns-4
+    check-rule-requires
+    returns-5)

@@ -1,13 +1,12 @@
 -- `table::offer_at` meets its contract. Assumes nothing.
-use Rattle.table.proofs.Offering.{has-entry, offered-one}
+use Rattle.table.proofs.Offering.{bid-there, offered-bid}
 use borrow.Author.Needs.{needs}
 use Rattle.table.proofs.offer_at.Statement.{statement}
 use Rattle.table.proofs.offer_at.Tie as tie
+use Rattle.table.proofs.offer_at.Reads as reads
 
 entry-there-requires : tie.Need-entry-there-requires
-entry-there-requires c κs =
-    let pre = c .before .before .before .pre in
-    has-entry (pre .5)
+entry-there-requires c κs = bid-there (c .before .before .before .pre .7)
 
 is-within-requires : tie.Need-is-within-requires
 is-within-requires c κs = search needs
@@ -16,9 +15,7 @@ with-link-requires : tie.Need-with-link-requires
 with-link-requires c κs = search needs
 
 put-there-requires : tie.Need-put-there-requires
-put-there-requires c κs =
-    let pre = c .before .before .before .before .before .before .before .pre in
-    has-entry (pre .5)
+put-there-requires c κs = bid-there (c .before .before .before .before .before .before .before .pre .7)
 
 same-length : tie.Need-same-length
 same-length c = search needs
@@ -29,8 +26,8 @@ returns c =
     let with-link = c .before .before .before .before .with-link in
     let is-within = c .before .before .before .before .before .is-within in
     let entry-there = c .before .before .before .before .before .before .entry-there in
-    λ g asked survey ranks k h p on.
-    offered-one h on (entry-there .ensures) p (is-within .ensures) (with-link .ensures) (put-there .ensures)
+    λ g links asked survey ranks k side h standing-is.
+    offered-bid h (entry-there .ensures) (is-within .ensures) standing-is (with-link .ensures) (put-there .ensures)
 
 pub offer-at-spec : {M : Type 1} → statement M
 offer-at-spec =

@@ -13,9 +13,6 @@ word-requires-2 c κs = search needs
 word-requires-3 : tie.Need-word-requires-3
 word-requires-3 c κs = search needs
 
-cast-t5 : tie.Need-cast-t5
-cast-t5 c = search needs
-
 word-requires-4 : tie.Need-word-requires-4
 word-requires-4 c κs = search needs
 
@@ -24,6 +21,12 @@ cast-t6 c = search needs
 
 word-requires-5 : tie.Need-word-requires-5
 word-requires-5 c κs = search needs
+
+cast-t7 : tie.Need-cast-t7
+cast-t7 c = search needs
+
+word-requires-6 : tie.Need-word-requires-6
+word-requires-6 c κs = search needs
 
 cast-t8 : tie.Need-cast-t8
 cast-t8 c = search needs
@@ -39,9 +42,10 @@ head-of-spec =
     word-requires
     word-requires-2
     word-requires-3
-    cast-t5
     word-requires-4
     cast-t6
     word-requires-5
+    cast-t7
+    word-requires-6
     cast-t8
     returns)

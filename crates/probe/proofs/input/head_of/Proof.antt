@@ -22,14 +22,17 @@ word-requires-5 c κs = search needs
 word-requires-6 : tie.Need-word-requires-6
 word-requires-6 c κs = search needs
 
-cast-t7 : tie.Need-cast-t7
-cast-t7 c = search needs
-
 word-requires-7 : tie.Need-word-requires-7
 word-requires-7 c κs = search needs
 
+cast-t8 : tie.Need-cast-t8
+cast-t8 c = search needs
+
 word-requires-8 : tie.Need-word-requires-8
 word-requires-8 c κs = search needs
+
+word-requires-9 : tie.Need-word-requires-9
+word-requires-9 c κs = search needs
 
 long-requires : tie.Need-long-requires
 long-requires c κs = search needs
@@ -37,14 +40,14 @@ long-requires c κs = search needs
 long-requires-2 : tie.Need-long-requires-2
 long-requires-2 c κs = search needs
 
-word-requires-9 : tie.Need-word-requires-9
-word-requires-9 c κs = search needs
-
 word-requires-10 : tie.Need-word-requires-10
 word-requires-10 c κs = search needs
 
 word-requires-11 : tie.Need-word-requires-11
 word-requires-11 c κs = search needs
+
+word-requires-12 : tie.Need-word-requires-12
+word-requires-12 c κs = search needs
 
 returns : tie.Need-returns
 unfolding headIn longIn
@@ -60,12 +63,13 @@ head-of-spec =
     word-requires-4
     word-requires-5
     word-requires-6
-    cast-t7
     word-requires-7
+    cast-t8
     word-requires-8
+    word-requires-9
     long-requires
     long-requires-2
-    word-requires-9
     word-requires-10
     word-requires-11
+    word-requires-12
     returns)
