@@ -1,4 +1,5 @@
 // The file of a network and depth: which block holds which records, the writer and the reader.
+#![tactic(auto)]
 ghost use Rattle.std.specs.Prelude.{◌≡◌, ◌+◌, ◌*◌, ◌-◌, ◌<◌, ◌≤◌, min, ◌++◌, length, take, drop, replicate};
 ghost use Rattle.edition.specs.Limits.{node_limit, link_limit, entry_room};
 ghost use Rattle.edition.specs.Stored.{by_number, block_bytes, entry_bytes};
@@ -23,7 +24,7 @@ use network::Link;
 use sound::Checked;
 
 // What a block holds: its kind, the number of its first record, and how many it holds.
-#[derive(Drop)]
+#[derive(Clone, Copy)]
 pub struct Part {
     pub kind: u8,
     pub from: usize,
@@ -31,7 +32,7 @@ pub struct Part {
 }
 
 // What a file's header says: how many nodes and links there are, the root and the depth, which mean a search by tie rule 0.
-#[derive(Drop)]
+#[derive(Clone, Copy)]
 pub struct Header {
     pub nodes: usize,
     pub links: usize,
@@ -39,14 +40,14 @@ pub struct Header {
 }
 
 // What the header of an accepted file says, or why it is not accepted.
-#[derive(Drop)]
+#[derive(Clone, Copy)]
 pub enum ReadAnswer {
     Is(Header),
     Not(Refusal),
 }
 
 // The length of the file written, or why there is none.
-#[derive(Drop)]
+#[derive(Clone, Copy)]
 pub enum WriteAnswer {
     Is(usize),
     Not(Refusal),

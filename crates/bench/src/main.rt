@@ -4,6 +4,7 @@
 // The input is 16-bit words, the high byte first: n, m, root, depth, times and tie rule; n parents; m records of links; the job: 0 the table,
 // 1 the change of a link (of each link outside the tree in turn, withdrawn and then in service again), 2 the write of the file,
 // 3 its read. One that is not a whole network within the limits, or that is refused, prints `refused`.
+#![tactic(auto)]
 use archive::{ReadAnswer, WriteAnswer};
 use edition::{Change, Edition, Memory, Search, Verdict};
 use test_words::HEAD;
@@ -19,7 +20,7 @@ const CHANGE: u16 = 1;
 const WRITE: u16 = 2;
 
 // The number, or that the input is refused.
-#[derive(Drop)]
+#[derive(Clone, Copy)]
 enum Outcome {
     Number(u64),
     Refused,

@@ -1,4 +1,5 @@
 // A block of the stored form: what one is refused for, its payload, and how one is made.
+#![tactic(auto)]
 ghost use Rattle.std.specs.Prelude.{◌≡◌, false, ◌+◌, ◌*◌, ◌<◌, ◌≤◌, length};
 ghost use Rattle.edition.specs.Stored.{block_bytes, front_bytes, entry_bytes};
 ghost use Rattle.rows.specs.Count.{some_to};

@@ -1,4 +1,5 @@
 // The change of one link outside the tree: its verdict, its application, and one after the other.
+#![tactic(auto)]
 ghost use Rattle.std.specs.Prelude.{◌≡◌, List, ℕ, ◌<◌, ◌≤◌, length};
 ghost use Rattle.edition.specs.declared.Search.{Search};
 ghost use Rattle.edition.specs.Limits.{node_limit};

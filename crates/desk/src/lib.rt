@@ -1,12 +1,13 @@
 // What the desk programs share: files by name, and what is said on standard error. A function that says why something went
 // wrong answers false, which its caller hands up.
+#![tactic(auto)]
 ghost use Rattle.std.specs.Prelude.{◌≡◌, true, false, ◌+◌, ◌≤◌, leb, length};
 ghost use Rattle.desk.specs.Longest.{longest_file, longest_text};
 
 use edition::{Edition, Refusal, Why};
 
 // The longest name of a file, the longest file that is read or written, and the longest text, in bytes.
-#[derive(Drop)]
+#[derive(Clone, Copy)]
 pub struct Desk {
     pub name: usize,
 }
@@ -20,7 +21,7 @@ impl Desk {
 }
 
 // How many bytes were read, or that the file could not be read.
-#[derive(Drop)]
+#[derive(Clone, Copy)]
 pub enum Got {
     Is(usize),
     Not,

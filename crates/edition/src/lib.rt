@@ -1,4 +1,6 @@
 // The edition's numbers and memory's, and the values that go in and out of every layer. All are plain and go by value.
+#![tactic(auto)]
+
 ghost use Rattle.std.specs.Prelude.{◌≡◌};
 ghost use Rattle.edition.specs.Limits.{no_link, no_node, memory_limits};
 ghost use Rattle.edition.specs.Stored.{edition_limits, aim_of, by_number};
@@ -6,7 +8,7 @@ ghost use Rattle.edition.specs.Refusals.{number_of};
 ghost use Rattle.edition.specs.Entries.{no_swap, blank, swap_by};
 
 // Why something is refused: a case for each number of SCOPE's list.
-#[derive(Drop)]
+#[derive(Clone, Copy)]
 pub enum Why {
     NodeCount,
     LinkCount,
@@ -32,28 +34,28 @@ pub enum Why {
 }
 
 // A refusal: why, and the place that SCOPE names for it.
-#[derive(Drop)]
+#[derive(Clone, Copy)]
 pub struct Refusal {
     pub why: Why,
     pub place: usize,
 }
 
 // What a check says.
-#[derive(Drop)]
+#[derive(Clone, Copy)]
 pub enum Verdict {
     Taken,
     Refused(Refusal),
 }
 
 // What a search by number finds.
-#[derive(Drop)]
+#[derive(Clone, Copy)]
 pub enum Found {
     Nothing,
     At(usize),
 }
 
 // The most nodes and links, and the deepest bounded search.
-#[derive(Drop)]
+#[derive(Clone, Copy)]
 pub struct Limits {
     pub nodes: usize,
     pub links: usize,
@@ -61,7 +63,7 @@ pub struct Limits {
 }
 
 // The numbers that a caller names beside the rows of a network: the root, the depth, and the tie rule.
-#[derive(Drop)]
+#[derive(Clone, Copy)]
 pub struct Search {
     pub root: u16,
     pub depth: u16,
@@ -69,7 +71,7 @@ pub struct Search {
 }
 
 // The root and the depth alone, where there is no tie rule to name.
-#[derive(Drop)]
+#[derive(Clone, Copy)]
 pub struct Aim {
     pub root: u16,
     pub depth: u16,
@@ -101,7 +103,7 @@ impl Aim {
 }
 
 // A change of one link: its number, and the service mark and length that it gets.
-#[derive(Drop)]
+#[derive(Clone, Copy)]
 pub struct Change {
     pub link: u16,
     pub mark: u16,
@@ -109,7 +111,7 @@ pub struct Change {
 }
 
 // What is least: the sum of the new distances, the largest increase, or the largest new distance.
-#[derive(Drop)]
+#[derive(Clone, Copy)]
 pub enum Measure {
     Sum,
     Incr,
@@ -117,7 +119,7 @@ pub enum Measure {
 }
 
 // A swap link, its cost under one measure, and the mark of its lower end: 0 the link's first end, 1 its second.
-#[derive(Drop)]
+#[derive(Clone, Copy)]
 pub struct Swap {
     pub link: u64,
     pub cost: u64,
@@ -125,7 +127,7 @@ pub struct Swap {
 }
 
 // An entry of the table: the state of a node's tree link, and its swap link under each measure.
-#[derive(Drop)]
+#[derive(Clone, Copy)]
 pub struct Entry {
     pub state: u64,
     pub sum: Swap,
@@ -134,7 +136,7 @@ pub struct Entry {
 }
 
 // Edition 1: what its files can hold, how they are laid out, and its marks. No other file of code writes these numbers.
-#[derive(Drop)]
+#[derive(Clone, Copy)]
 pub struct Edition {
     pub number: u8,
 }
@@ -267,7 +269,7 @@ impl Edition {
 }
 
 // What memory holds: its own limits, and how wide the records of its rows are.
-#[derive(Drop)]
+#[derive(Clone, Copy)]
 pub struct Memory {
     pub words: usize,
 }
@@ -325,6 +327,7 @@ pub fn swap_by(entry: Entry, measure: Measure) -> Swap
 }
 
 // The number that SCOPE gives a refusal.
+#[tactic(auto, unfolding(crate::specs::Refusals::number_of))]
 pub fn number(why: Why) -> u16
     ensures { result ≡ number_of why }
 {

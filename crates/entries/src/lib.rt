@@ -1,4 +1,5 @@
 // Entries in a lent row, a record each. How an entry lies in memory is known here and nowhere else.
+#![tactic(auto)]
 ghost use Rattle.std.specs.Prelude.{◌≡◌, [], ◌*◌, ◌<◌, min};
 ghost use Rattle.edition.specs.Limits.{node_limit, entry_width};
 ghost use Rattle.entries.specs.Row.{entries_in, entry_from, entry_at, put_entry, past_entries};

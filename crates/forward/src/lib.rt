@@ -1,4 +1,5 @@
 // The forwarder of a branch router: the nodes over which a start is led to the root while the tree link of a node is down.
+#![tactic(auto)]
 ghost use Rattle.std.specs.Prelude.{◌≡◌, ◌||◌, eqb, leb, ltb, [], ◌∷◌, ◌++◌, reverse, ◌+◌, ◌<◌, ◌≤◌, length};
 ghost use Rattle.std.proofs.lemmas.List.Edits.{sets};
 ghost use Rattle.edition.specs.Limits.{route_room};
@@ -13,7 +14,7 @@ use edition::{Edition, Measure, Memory, Refusal, Search, Swap, Verdict, Why};
 use tree::Climb;
 
 // What a router asks: where the list begins, the node whose tree link has failed, and the measure of its swap link.
-#[derive(Drop)]
+#[derive(Clone, Copy)]
 pub struct Ask {
     pub start: u16,
     pub failed: u16,
@@ -21,14 +22,14 @@ pub struct Ask {
 }
 
 // A list: how many nodes it has, and how long it is.
-#[derive(Drop)]
+#[derive(Clone, Copy)]
 pub struct Way {
     pub nodes: usize,
     pub length: u64,
 }
 
 // The row that applies, with the way of the list at its beginning; or why there is none.
-#[derive(Drop)]
+#[derive(Clone, Copy)]
 pub enum Applies {
     Ordinary(Way),
     Detour(Way),
@@ -36,7 +37,7 @@ pub enum Applies {
 }
 
 // The way over a swap link: from its lower end to the other, and its length.
-#[derive(Drop)]
+#[derive(Clone, Copy)]
 struct Over {
     pub from: usize,
     pub to: usize,

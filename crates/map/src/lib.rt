@@ -1,4 +1,5 @@
 // The unprotected map: the nodes in states 2 and 3 as bits, worked out from network and depth and never from a lent table.
+#![tactic(auto)]
 ghost use Rattle.std.specs.Prelude.{◌≡◌, ◌+◌, ◌*◌, ◌<◌, ◌≤◌, length};
 ghost use Rattle.edition.specs.Limits.{map_words};
 ghost use Rattle.rows.specs.Count.{only_if};
@@ -10,14 +11,14 @@ ghost use Rattle.map.specs.Work.{open_by, word_by, words_by, ones_in, some_in, l
 use edition::{Edition, Found, Memory, Refusal, Search, Verdict, Why};
 
 // How many nodes are unprotected, and the lowest of them, 65,535 where there is none.
-#[derive(Drop)]
+#[derive(Clone, Copy)]
 pub struct Unprotected {
     pub count: u32,
     pub lowest: u16,
 }
 
 // What is told of the map beside its words, or why there is none.
-#[derive(Drop)]
+#[derive(Clone, Copy)]
 pub enum MapAnswer {
     Is(Unprotected),
     Not(Refusal),

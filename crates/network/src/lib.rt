@@ -1,4 +1,6 @@
 // A network in lent rows: its links and its nodes' parent links, read totally; refusals 1 to 7 and 14.
+#![tactic(auto)]
+
 ghost use Rattle.std.specs.Prelude.{◌≡◌, ◌*◌, min, length, get_or};
 ghost use Rattle.edition.specs.Limits.{no_link, link_limit, link_width};
 ghost use Rattle.edition.specs.declared.Why.TheVariants.{NodeCount, LinkCount, BadRoot, BadDepth, BadRule, BadEnds, BadMark, BadParent};
@@ -9,7 +11,7 @@ ghost use Rattle.network.specs.Records.{bad_nodes, bad_links, bad_root, bad_dept
 use edition::{Edition, Found, Limits, Memory, Search, Verdict, Why};
 
 // A link's record: its two ends, its length and its service mark.
-#[derive(Drop)]
+#[derive(Clone, Copy)]
 pub struct Link {
     pub first: u16,
     pub second: u16,
@@ -25,6 +27,7 @@ pub fn links_in(links: &[u16]) -> usize
 }
 
 // The records of the first m links: that part of the lent row; all of it where it holds fewer.
+#[tactic(auto, unfolding(crate::specs::Network::front_links, rows::specs::Records::first_records))]
 pub fn first_links(links: &[u16], m: usize) -> &[u16]
     ensures { result.now ≡ front_links m links.now }
 {
@@ -35,6 +38,7 @@ pub fn first_links(links: &[u16], m: usize) -> &[u16]
 }
 
 // What lies past the records of the first m links: that part of the lent row.
+#[tactic(auto, unfolding(crate::specs::Network::past_links, rows::specs::Records::past_records))]
 pub fn past_links(links: &[u16], m: usize) -> &[u16]
     ensures { result.now ≡ past_links m links.now }
 {
@@ -56,6 +60,7 @@ pub fn numbers_of(m: usize) -> usize
 }
 
 // The record of link e; all 0 where there is no such link.
+#[tactic(auto, unfolding(crate::specs::Network::link_from))]
 pub fn link_at(links: &[u16], e: usize) -> Link
     ensures { result ≡ link_in links.now e }
 {
@@ -77,6 +82,7 @@ pub fn link_at(links: &[u16], e: usize) -> Link
 }
 
 // Writes the record of link e; nothing where there is no such link.
+#[tactic(auto, unfolding(crate::specs::Network::link_row))]
 pub fn put_link(links: &mut [u16], e: usize, l: Link)
     ensures { links.new ≡ put_link links.old e l }
 {
@@ -113,6 +119,7 @@ pub fn is_parent(parents: &[u16], e: usize) -> bool
 }
 
 // Whether the link is in service.
+#[tactic(auto, unfolding(crate::specs::Network::in_service))]
 pub fn in_service(l: Link) -> bool
     ensures { result ≡ in_service l }
 {
@@ -120,6 +127,7 @@ pub fn in_service(l: Link) -> bool
 }
 
 // Whether u is an end of the link.
+#[tactic(auto, unfolding(crate::specs::Network::touches))]
 pub fn touches(l: Link, u: usize) -> bool
     ensures { result ≡ touchesIt l u }
 {
@@ -130,6 +138,7 @@ pub fn touches(l: Link, u: usize) -> bool
 }
 
 // The end of the link that is not u.
+#[tactic(auto, unfolding(crate::specs::Network::other_end))]
 pub fn other_end(l: Link, u: usize) -> usize
     ensures { result ≡ other_end l u }
 {
@@ -140,6 +149,7 @@ pub fn other_end(l: Link, u: usize) -> usize
 }
 
 // 1: n is 0 or over the limit.
+#[tactic(auto, unfolding(crate::specs::Records::bad_nodes))]
 fn bad_nodes(most: Limits, n: usize) -> bool
     ensures { result ≡ bad_nodes most n }
 {
@@ -150,6 +160,7 @@ fn bad_nodes(most: Limits, n: usize) -> bool
 }
 
 // 4: the depth is over the limit and not the whole search.
+#[tactic(auto, unfolding(crate::specs::Records::bad_depth))]
 fn bad_depth(most: Limits, depth: u16) -> bool
     ensures { result ≡ bad_depth most depth }
 {
@@ -160,6 +171,7 @@ fn bad_depth(most: Limits, depth: u16) -> bool
 }
 
 // 14: the tie rule is neither 0 nor 1.
+#[tactic(auto, unfolding(crate::specs::Records::bad_rule))]
 fn bad_rule(rule: u16) -> bool
     ensures { result ≡ bad_rule rule }
 {
@@ -177,6 +189,7 @@ pub fn check_nodes(most: Limits, n: usize) -> Verdict
 }
 
 // Refusal 2, of the number of links.
+#[tactic(auto, unfolding(crate::specs::Records::bad_links))]
 pub fn check_links(most: Limits, m: usize) -> Verdict
     ensures { result ≡ refuse_if (bad_links most m) LinkCount 0 }
 {
@@ -184,6 +197,7 @@ pub fn check_links(most: Limits, m: usize) -> Verdict
 }
 
 // Refusal 3, of the root among n nodes.
+#[tactic(auto, unfolding(crate::specs::Records::bad_root))]
 pub fn check_root(n: usize, root: u16) -> Verdict
     ensures { result ≡ refuse_if (bad_root n root) BadRoot 0 }
 {
@@ -205,6 +219,7 @@ pub fn check_rule(rule: u16) -> Verdict
 }
 
 // Refusals 1 to 4, then 14, of numbers: n, m, root, depth and tie rule.
+#[tactic(auto, unfolding(crate::specs::Records::size_verdict, rows::specs::First::firstly))]
 pub fn check_sizes(most: Limits, n: usize, m: usize, search: Search) -> Verdict
     ensures { result ≡ size_verdict most n m search }
 {
@@ -228,6 +243,7 @@ pub fn check_sizes(most: Limits, n: usize, m: usize, search: Search) -> Verdict
 }
 
 // 5: an end is no node, or both ends are equal.
+#[tactic(auto, unfolding(crate::specs::Records::bad_ends))]
 fn bad_ends(n: usize, l: Link) -> bool
     ensures { result ≡ bad_ends n l }
 {
@@ -241,6 +257,7 @@ fn bad_ends(n: usize, l: Link) -> bool
 }
 
 // 6: the service mark is neither 0 nor 1.
+#[tactic(auto, unfolding(crate::specs::Records::bad_mark))]
 pub fn bad_mark(mark: u16) -> bool
     ensures { result ≡ bad_mark mark }
 {
@@ -280,6 +297,7 @@ fn first_bad_mark(links: &[u16]) -> Found
 }
 
 // Refusal 5, of a row of links among n nodes.
+#[tactic(auto, unfolding(rows::specs::First::refuse_at))]
 pub fn check_ends(links: &[u16], n: usize) -> Verdict
     ensures { let row = links.now in
         result ≡ refuse_at (λ e. bad_ends n (link_in row e)) (links_in row) BadEnds }
@@ -288,6 +306,7 @@ pub fn check_ends(links: &[u16], n: usize) -> Verdict
 }
 
 // Refusal 6, of a row of links.
+#[tactic(auto, unfolding(rows::specs::First::refuse_at))]
 pub fn check_marks(links: &[u16]) -> Verdict
     ensures { let row = links.now in
         result ≡ refuse_at (λ e. bad_mark (link_in row e).mark) (links_in row) BadMark }
@@ -296,6 +315,7 @@ pub fn check_marks(links: &[u16]) -> Verdict
 }
 
 // 7 for a node that is not the root: e is no link, withdrawn or not touching it.
+#[tactic(auto, unfolding(crate::specs::Records::unfit))]
 fn is_unfit(m: usize, e: usize, l: Link, u: usize) -> bool
     ensures { result ≡ unfit m e l u }
 {
@@ -309,6 +329,7 @@ fn is_unfit(m: usize, e: usize, l: Link, u: usize) -> bool
 }
 
 // 7: the root's parent link is not 65,535, or another's is unfit.
+#[tactic(auto, unfolding(crate::specs::Records::bad_parent, crate::specs::Network::net_of))]
 fn bad_parent(links: &[u16], parents: &[u16], search: Search, u: usize) -> bool
     ensures { result ≡ bad_parent (net_of links.now parents.now search) u }
 {
@@ -336,6 +357,7 @@ fn first_bad_parent(links: &[u16], parents: &[u16], search: Search) -> Found
 }
 
 // Refusal 7, of the row of parent links.
+#[tactic(auto, unfolding(rows::specs::First::refuse_at))]
 pub fn check_parents(links: &[u16], parents: &[u16], search: Search) -> Verdict
     ensures { let g = net_of links.now parents.now search in
         result ≡ refuse_at (bad_parent g) (length parents.now) BadParent }

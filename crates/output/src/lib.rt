@@ -1,6 +1,7 @@
 // Printing by way of a lent buffer, whose first `at` bytes wait. A function that prints takes the buffer and `at` and answers
 // the next `at`; what does not fit has what waits written out first, so no caller has to know how much room is left. No
 // contract can speak of what was written out; these say what waits.
+#![tactic(auto)]
 ghost use Rattle.std.specs.Prelude.{◌≡◌, [], ◌∷◌, ◌+◌, ◌≤◌, ◌<◌, length};
 ghost use Rattle.std.proofs.Math.Seq.{paste};
 ghost use Rattle.io.specs.Digits.{hex_digit_ascii};

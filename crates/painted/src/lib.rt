@@ -1,6 +1,7 @@
 // The library that `bench/stack` measures: calls of the layers as functions for C, over numbers and lent rows. What a call
 // answers is mixed into one number, so that no part of it is left out. The functions promise no more than that they do nothing
 // undefined and end.
+#![tactic(auto)]
 use archive::{Header, ReadAnswer, WriteAnswer};
 use edition::{Aim, Change, Edition, Entry, Measure, Memory, Refusal, Search, Swap, Verdict};
 use forward::{Applies, Ask};

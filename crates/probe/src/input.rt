@@ -10,7 +10,7 @@ use probe_rows::limits::{BYTES, LINKS, PARENTS, ROOM, ROUTE};
 
 // The head of a case: its op, how many parents and how much else follow, how much room is lent, and the numbers that the
 // caller states. The two words of the room are for op 9 the lengths of two rows.
-#[derive(Drop)]
+#[derive(Clone, Copy)]
 pub struct Head {
     pub op: u16,
     pub parents: usize,
@@ -25,7 +25,7 @@ pub struct Head {
 }
 
 // A head, or the end of the input.
-#[derive(Drop)]
+#[derive(Clone, Copy)]
 pub enum Heading {
     Is(Head),
     End,

@@ -1,5 +1,6 @@
 // The library from the outside: reads cases from standard input, and prints what the public functions answer and what they
 // leave in the lent rows.
+#![tactic(auto)]
 mod input;
 mod limits;
 mod ops;
@@ -9,7 +10,7 @@ use limits::{CASES, OUT};
 use probe_rows::limits::{BYTES, LINKS, PARENTS};
 
 // Whether another case follows, and how much waits to be printed.
-#[derive(Drop)]
+#[derive(Clone, Copy)]
 enum Next {
     On(usize),
     Over(usize),

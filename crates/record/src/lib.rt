@@ -1,4 +1,5 @@
 // Records as bytes.
+#![tactic(auto)]
 ghost use Rattle.std.specs.Prelude.{◌≡◌, ◌++◌, ◌+◌, ◌≤◌, leb, length};
 ghost use Rattle.std.proofs.lemmas.List.Edits.{sets};
 ghost use Rattle.edition.specs.Stored.{header_bytes, link_bytes, entry_bytes};

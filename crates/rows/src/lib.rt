@@ -1,4 +1,5 @@
 // Numbers in lent rows: total reads, and what a search found as a verdict.
+#![tactic(auto)]
 ghost use Rattle.std.specs.Prelude.{◌≡◌, get_or, take};
 ghost use Rattle.rows.specs.First.{or_here, refuse_if, refused_at};
 
@@ -29,6 +30,7 @@ pub fn first(row: &[u16], n: usize) -> &[u16]
 }
 
 // Refused for this reason and at this place where the test holds.
+#[tactic(auto, unfolding(crate::specs::First::refuse_if))]
 pub fn refuse_if(bad: bool, why: Why, place: usize) -> Verdict
     ensures { result ≡ refuse_if bad why place }
 {
@@ -39,6 +41,7 @@ pub fn refuse_if(bad: bool, why: Why, place: usize) -> Verdict
 }
 
 // What was found, or else this place where the test passes. Over rising places it finds the lowest that passes.
+#[tactic(auto, unfolding(crate::specs::First::or_here))]
 pub fn or_here(found: Found, passes: bool, place: usize) -> Found
     ensures { result ≡ or_here found passes place }
 {
@@ -52,6 +55,7 @@ pub fn or_here(found: Found, passes: bool, place: usize) -> Found
 }
 
 // Refused for this reason at what was found.
+#[tactic(auto, unfolding(crate::specs::First::refused_at))]
 pub fn refused_at(why: Why, found: Found) -> Verdict
     ensures { result ≡ refused_at why found }
 {

@@ -5,6 +5,7 @@
 // for each change its link, mark and length. One that is not a whole series within the limits prints `refused`, one whose table
 // is refused `refused N P`. A change that is taken prints `ok S`, a refused one `refused N P S`: S is the mix of all of the
 // links and then all of the entries, the room past the table among them.
+#![tactic(auto)]
 ghost use Rattle.std.specs.Prelude.{◌+◌, ◌*◌, ◌≤◌, ◌<◌, length};
 
 use edition::{Change, Memory, Refusal, Search, Verdict};

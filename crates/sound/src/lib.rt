@@ -1,4 +1,5 @@
 // The check of a network and its tree: refusals 8 and 9, and 1 to 9 with 14 in their order.
+#![tactic(auto)]
 ghost use Rattle.std.specs.Prelude.{◌≡◌, ◌<◌, ◌≤◌};
 ghost use Rattle.edition.specs.Limits.{node_limit};
 ghost use Rattle.rows.specs.First.{first_to};
@@ -12,14 +13,14 @@ use edition::{Found, Memory, Refusal, Search, Verdict, Why};
 use network::Link;
 
 // How large a network is.
-#[derive(Drop)]
+#[derive(Clone, Copy)]
 pub struct Sizes {
     pub nodes: usize,
     pub links: usize,
 }
 
 // What the check of a network says: sound, with its sizes, or why not.
-#[derive(Drop)]
+#[derive(Clone, Copy)]
 pub enum Checked {
     Sound(Sizes),
     Unsound(Refusal),

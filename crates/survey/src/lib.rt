@@ -1,5 +1,6 @@
 // What walks over the nodes tell of a tree: an order with every parent before its children, whether all nodes have a route, their
 // distances, and all that a search wants to know of each node, in O(n).
+#![tactic(auto)]
 ghost use Rattle.std.specs.Prelude.{◌≡◌, List, ◌++◌, ℕ, ◌+◌, ◌*◌, ◌^◌, ◌<◌, ◌≤◌, max, length, get_or};
 ghost use Rattle.edition.specs.Limits.{node_limit};
 ghost use Rattle.edition.specs.Refusals.{if_taken};
@@ -20,7 +21,7 @@ use edition::{Found, Memory, Search, Verdict, Why};
 
 // What is known of a node: its parent; d of it; of its T how many nodes that has, the two numbers by which a sum is known, and the
 // largest d; and the largest d in T of the parent and not in its own.
-#[derive(Drop)]
+#[derive(Clone, Copy)]
 pub struct Known {
     pub up: u64,
     pub near: u64,

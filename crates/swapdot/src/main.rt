@@ -1,5 +1,6 @@
 // swapdot FILE [sum|incr|max]: draws the network of a file for Graphviz, with the swap links of one measure, sum where none is
 // named, as arrows from their lower ends.
+#![tactic(auto)]
 use archive::{Header, ReadAnswer};
 use desk::{Desk, Got};
 use edition::{Edition, Entry, Measure, Memory, Search};
@@ -10,7 +11,7 @@ use network::Link;
 const OUT: usize = 80 * (2 + Memory::NODES + Memory::LINKS);
 
 // The measure that a word names, where it names one.
-#[derive(Drop)]
+#[derive(Clone, Copy)]
 enum Asked {
     By(Measure),
     Nothing,

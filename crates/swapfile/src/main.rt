@@ -1,4 +1,5 @@
 // swapfile TEXT FILE: makes the file of a network and depth that are written in plain text, or says why not.
+#![tactic(auto)]
 use archive::WriteAnswer;
 use desk::{Desk, Got};
 use edition::{Aim, Edition, Memory};
@@ -6,7 +7,7 @@ use network::Link;
 use text::{Cursor, Line, Word};
 
 // What the lines so far have said: how many nodes and links, the root and the depth as words, and what the last line lacked.
-#[derive(Drop)]
+#[derive(Clone, Copy)]
 struct Told {
     nodes: usize,
     links: usize,
@@ -16,7 +17,7 @@ struct Told {
 }
 
 // What a line can lack.
-#[derive(Drop)]
+#[derive(Clone, Copy)]
 struct Lack {
     what: u8,
 }

@@ -1,6 +1,7 @@
 // swapfix FILE CORRECTIONS NEW: makes the file NEW, which is FILE with the corrections in it, each a line `LINK up|down LENGTH`,
 // and lists the entries that changed, old and new. All or nothing: the first correction that is refused is said, and there is
 // no file NEW then.
+#![tactic(auto)]
 ghost use Rattle.std.specs.Prelude.{◌≤◌};
 ghost use Rattle.text.specs.Words.{most_number};
 

@@ -1,6 +1,7 @@
 // Lists the table that a file holds. Reads the stored form from standard input and prints SCOPE's listing, or
 // `refused N P` where the file is not accepted. A file over the longest that is listed is refusal 20 at place 0, before any
 // other check.
+#![tactic(auto)]
 use archive::{Header, ReadAnswer};
 use edition::{Memory, Refusal, Why};
 use map::MapAnswer;

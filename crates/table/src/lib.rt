@@ -1,4 +1,5 @@
 // The table: all entries, some of them afresh, or one.
+#![tactic(auto)]
 ghost use Rattle.std.specs.Prelude.{◌≡◌, ℕ, ◌+◌, ◌*◌, ◌^◌, ◌<◌, ◌≤◌, max, true, false, List, ◌++◌, length, if◌then◌else◌, nat_eq, slice_index};
 ghost use Rattle.entries.specs.Row.{entries_in, put_entry, past_entries};
 ghost use Rattle.edition.specs.Entries.{blank, root_state, bridge_state, first_end, second_end};
@@ -26,7 +27,7 @@ use sound::Checked;
 use tree::Climb;
 
 // A candidate under a measure: its link number, its cost under it, its incr cost, and the mark of its lower end.
-#[derive(Drop)]
+#[derive(Clone, Copy)]
 struct Offer {
     pub link: u64,
     pub cost: u64,
@@ -38,7 +39,7 @@ struct Offer {
 const STEP: u32 = 65536;
 
 // What a link costs a node under each measure.
-#[derive(Drop)]
+#[derive(Clone, Copy)]
 struct Costs {
     pub sum: u64,
     pub incr: u64,
@@ -46,7 +47,7 @@ struct Costs {
 }
 
 // What the standing swap links of a node cost it by incr, under sum and under max; 0 where that does not decide.
-#[derive(Drop)]
+#[derive(Clone, Copy)]
 struct Standing {
     pub sum: u64,
     pub max: u64,
@@ -54,7 +55,7 @@ struct Standing {
 
 // A climb from the lower end z of a link: z, its mark, its distance and its turn, and the largest tree distance from z to a node below
 // where the climb is.
-#[derive(Drop)]
+#[derive(Clone, Copy)]
 pub struct Side {
     pub climb: Climb,
     pub from: usize,
@@ -66,7 +67,7 @@ pub struct Side {
 
 // A link as it is offered to a node: the node, how many hops the link's lower end is below it, the mark of that end, and what the link
 // costs the node.
-#[derive(Drop)]
+#[derive(Clone, Copy)]
 struct Bid {
     pub node: usize,
     pub hops: usize,
@@ -75,7 +76,7 @@ struct Bid {
 }
 
 // The entry of one node, or why there is none.
-#[derive(Drop)]
+#[derive(Clone, Copy)]
 pub enum EntryAnswer {
     Is(Entry),
     Not(Refusal),

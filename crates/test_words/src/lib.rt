@@ -1,5 +1,6 @@
 // Input as 16-bit words, the high byte first: a head of six words, as many parents and records of links as it says, and
 // whatever else a program reads.
+#![tactic(auto)]
 ghost use Rattle.std.specs.Prelude.{◌≡◌, length};
 ghost use Rattle.test_words.specs.Words.{word_in, words_in, head_in};
 
@@ -9,7 +10,7 @@ use edition::Search;
 pub const HEAD: usize = 6;
 
 // The head: how many nodes and links follow, the search, and one more number, which each program has its own use for.
-#[derive(Drop)]
+#[derive(Clone, Copy)]
 pub struct Head {
     pub nodes: usize,
     pub links: usize,

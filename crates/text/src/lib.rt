@@ -1,5 +1,6 @@
 // Plain text by lines and words: what the desk programs read. Words stand between blanks; `#` begins a comment, which goes to
 // the end of the line. A word is answered as one number: itself where it is a number up to `Word::MOST`, else one of the marks.
+#![tactic(auto)]
 ghost use Rattle.std.specs.Prelude.{◌≡◌, not, ◌+◌, ◌-◌, ◌≤◌, min, eqb, length, get_or};
 ghost use Rattle.rows.specs.Count.{some_to};
 ghost use Rattle.text.specs.Words.{newline, byte_at, seek_from, is_blank, is_past, line_end, word_from, word_to};
@@ -9,7 +10,7 @@ ghost use Rattle.text.specs.Words.{next_value, next_end, line_of, first_line, ne
 use edition::Edition;
 
 // A word of a line: its value, and where it ends.
-#[derive(Drop)]
+#[derive(Clone, Copy)]
 pub struct Word {
     pub value: u32,
     pub to: usize,
@@ -42,7 +43,7 @@ impl Word {
 }
 
 // The words of a line, in their order; `rest` is the one behind the longest line that has a meaning.
-#[derive(Drop)]
+#[derive(Clone, Copy)]
 pub struct Line {
     pub kind: u32,
     pub a: u32,
@@ -54,14 +55,14 @@ pub struct Line {
 }
 
 // A line of a text: the place where it begins, and its number, from 1 on.
-#[derive(Drop)]
+#[derive(Clone, Copy)]
 pub struct Cursor {
     pub at: usize,
     pub number: usize,
 }
 
 // The words of a line, and the line behind it.
-#[derive(Drop)]
+#[derive(Clone, Copy)]
 pub struct Step {
     pub line: Line,
     pub next: Cursor,

@@ -1,4 +1,5 @@
 // The tree that a network's parent links make: climbing, routes, distances, where routes meet.
+#![tactic(auto)]
 ghost use Rattle.std.specs.Prelude.{◌≡◌, ◌+◌, ◌<◌, ◌≤◌, true, length};
 ghost use Rattle.edition.specs.Limits.{node_limit};
 ghost use Rattle.rows.specs.Count.{row_with};
@@ -11,7 +12,7 @@ ghost use Rattle.tree.specs.Work.{Rooted, Routed};
 use edition::{Edition, Memory, Refusal, Search, Verdict, Why};
 
 // A climb by value: where it is, and how many hops and how far that is from where it began.
-#[derive(Drop)]
+#[derive(Clone, Copy)]
 pub struct Climb {
     pub node: usize,
     pub hops: usize,
@@ -19,14 +20,14 @@ pub struct Climb {
 }
 
 // Where two routes meet, and the length of the tree path through there.
-#[derive(Drop)]
+#[derive(Clone, Copy)]
 struct Met {
     node: usize,
     length: u64,
 }
 
 // A number, or why there is none.
-#[derive(Drop)]
+#[derive(Clone, Copy)]
 pub enum Answer {
     Is(u64),
     Not(Refusal),
