@@ -8,7 +8,7 @@ use native.Mathlib.Omega.{arith}
 use lib.Dec.{eqb, leb, ltb}
 use lib.ListN.{length, get_or, take, drop, length-take, get_or-eq_default}
 use lib.Seq.{take_all, get_or-take, get_or-drop}
-use borrow.Author.Tests.{eqb-true, eqb-false, not_false, ltb-true, ltb-false, leb-false}
+use borrow.Author.Tests.{eqb-true, eqb-false, not-false, ltb-true, ltb-false, leb-false}
 use Rattle.edition.specs.declared.Verdict.TheVariants.{Taken}
 use Rattle.edition.specs.declared.Why.TheVariants.{BadLength, BadEntry}
 use Rattle.edition.specs.Stored.{block_bytes, front_bytes, header_kind, links_kind, table_kind, link_bytes, entry_bytes, headers_aBlock, links_aBlock, entries_aBlock}
@@ -97,12 +97,12 @@ module _ (file : List ℕ) (bytes : (i : ℕ) → get_or file i 0 < 256) where
       let r2 = rest-taken _ _ r1 in
       let r4 = rest-taken _ _ (rest-taken _ _ r2) in
       record {
-        long = eqb-true (length file) (block_count n m * block_bytes) (not_false _ (if_taken_lem _ BadLength 0 (head_taken _ _ rest)));
+        long = eqb-true (length file) (block_count n m * block_bytes) (not-false _ (if_taken_lem _ BadLength 0 (head_taken _ _ rest)));
         blocks = to_taken (block_refusal file n m) (block_count n m) (head_taken _ _ r1);
         fresh =
             λ x l.
             ap (λ (k : ℕ). take entry_bytes (drop (entry_place k x) file)) (sym (links_read_lem file))
-            ∙ same_equal _ _ (not_false _ (at_taken (bad_entry file) n BadEntry (head_taken _ _ r4) x l));
+            ∙ same_equal _ _ (not-false _ (at_taken (bad_entry file) n BadEntry (head_taken _ _ r4) x l));
       }
 
   module _ (w : Whole) (i : ℕ) (there : i < block_count n m) where

@@ -8,7 +8,7 @@ use Prim.Native.Nat.{ℕ, ◌<◌, ◌≤◌}
 use native.Mathlib.Omega.{arith}
 use lib.Dec.{eqb, leb, ltb}
 use lib.ListN.{get_or, take, drop}
-use borrow.Author.Tests.{eqb-true, eqb-false, ltb-false, not_false, eq-eqb, ne_eqb}
+use borrow.Author.Tests.{eqb-true, eqb-false, ltb-false, not-false, eq-eqb, ne_eqb}
 use Rattle.edition.specs.declared.Verdict.TheVariants.{Taken}
 use Rattle.edition.specs.declared.Why.TheVariants.{BadDepth}
 use Rattle.edition.specs.Limits.{whole_search}
@@ -31,7 +31,7 @@ unfolding bad_depth
 depth_cases depth h other = go (ltb stored_depth depth) refl
   where
     go : (b : Bool) → ltb stored_depth depth ≡ b → depth ≤ stored_depth
-    go true e = absurd (other (eqb-true depth whole_search (not_false _ (rw e at h))))
+    go true e = absurd (other (eqb-true depth whole_search (not-false _ (rw e at h))))
     go false e = ltb-false stored_depth depth e
 
 -- what a depth says of the candidates: one of two cases

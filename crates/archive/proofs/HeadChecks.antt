@@ -6,7 +6,7 @@ use Prim.Native.Nat.{ℕ, ◌+◌, ◌*◌, ◌%◌, ◌≤◌}
 use native.Mathlib.Omega.{arith}
 use lib.Dec.{eqb}
 use lib.ListN.{length}
-use borrow.Author.Tests.{eqb-true, eqb-false, not_false}
+use borrow.Author.Tests.{eqb-true, eqb-false, not-false}
 use Rattle.edition.specs.declared.Limits.{Limits}
 use Rattle.edition.specs.declared.Refusal.{Refusal}
 use Rattle.edition.specs.declared.Verdict.{Verdict}
@@ -34,7 +34,7 @@ module _ (file : List ℕ) (b : Bool) (odd : b ≡ bad_file_length file) (v : Ve
     unfolding bad_file_length
     first-there =
         let parts = or_false (eqb (length file) 0) (not (eqb (length file % block_bytes) 0)) (if_taken_lem (bad_file_length file) BadLength 0 (sym whole ∙ ok)) in
-        omega (arith, eqb-false (length file) 0 parts.0, eqb-true (length file % block_bytes) 0 (not_false (eqb (length file % block_bytes) 0) parts.1))
+        omega (arith, eqb-false (length file) 0 parts.0, eqb-true (length file % block_bytes) 0 (not-false (eqb (length file % block_bytes) 0) parts.1))
 
     module _ (w : Verdict) (first : w ≡ block_refusal file 0 0 0) where
       pub block_refuses : (r : Refusal) → w ≡ Refused r → w ≡ head_verdict file

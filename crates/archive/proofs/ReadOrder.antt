@@ -6,7 +6,7 @@ use Prim.Native.Nat.{ℕ, ◌*◌, ◌≤◌}
 use native.Mathlib.Omega.{arith}
 use lib.Dec.{eqb}
 use lib.ListN.{length}
-use borrow.Author.Tests.{eqb-true, not_false}
+use borrow.Author.Tests.{eqb-true, not-false}
 use Rattle.edition.specs.declared.Refusal.{Refusal}
 use Rattle.edition.specs.declared.Verdict.{Verdict}
 use Rattle.edition.specs.declared.Verdict.TheVariants.{Taken, Refused}
@@ -117,7 +117,7 @@ module _ (file : List ℕ) (v : Verdict) (is : v ≡ head_verdict file) where
 
       module _ (long : w ≡ Taken) where
         pub blocks_there : block_count head.nodes head.links * block_bytes ≤ length file
-        blocks_there = omega (arith, eqb-true (length file) k (not_false _ (if_taken_lem _ BadLength 0 (sym wis ∙ long))), e)
+        blocks_there = omega (arith, eqb-true (length file) k (not-false _ (if_taken_lem _ BadLength 0 (sym wis ∙ long))), e)
 
         pub blocks_decide :
             (x : Verdict)
@@ -159,7 +159,7 @@ module _ (file : List ℕ) (t : blocks_verdict file ≡ Taken) (head : Header) (
       record {
         is = h;
         sized = sizes_taken file head_passed;
-        long = eqb-true (length file) _ (not_false _ (if_taken_lem _ BadLength 0 (head_taken _ _ (rest-taken _ _ t))));
+        long = eqb-true (length file) _ (not-false _ (if_taken_lem _ BadLength 0 (head_taken _ _ (rest-taken _ _ t))));
       }
 
   short-is : (rows : Rows) → too_short head.nodes head.links rows ≡ too_short (nodes_read file) (links_read file) rows

@@ -8,7 +8,7 @@ use native.Mathlib.Omega.{arith}
 use lib.Dec.{eqb}
 use lib.ListN.{length, get_or}
 use lib.Seq.{ext_get_or}
-use borrow.Author.Tests.{eqb-true, not_false}
+use borrow.Author.Tests.{eqb-true, not-false}
 use Rattle.edition.specs.declared.Entry.{Entry}
 use Rattle.edition.specs.declared.Search.{Search}
 use Rattle.edition.specs.declared.Aim.{Aim}
@@ -100,7 +100,7 @@ module _ (g : Net) (ok : net_verdict g ≡ Taken) where
   parent-small u l = go (eqb u g.search.root) refl
     where
       go : (b : Bool) → eqb u g.search.root ≡ b → g.parent u ≤ word_most
-      go true e = omega (arith, eqb-true (g.parent u) no_link (not_false _ (rw e at ((sound g ok).recorded.parents-ok u l))))
+      go true e = omega (arith, eqb-true (g.parent u) no_link (not-false _ (rw e at ((sound g ok).recorded.parents-ok u l))))
       go false e = omega (arith, parent_in g (sound g ok) u l e, links-few g (sound g ok))
 
   -- the parent of a node

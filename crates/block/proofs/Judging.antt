@@ -5,7 +5,7 @@ use mathlib.Core.List.{List, []}
 use Prim.Native.Nat.{ℕ}
 use lib.Dec.{eqb}
 use lib.ListN.{length, take, drop}
-use borrow.Author.Tests.{eq-eqb, ne_eqb, eqb-true, not_false}
+use borrow.Author.Tests.{eq-eqb, ne_eqb, eqb-true, not-false}
 use Rattle.edition.specs.declared.Verdict.{Verdict}
 use Rattle.edition.specs.declared.Verdict.TheVariants.{Taken, Refused}
 use Rattle.edition.specs.declared.Why.TheVariants.{BadLength, BadCheck, BadBlock}
@@ -44,7 +44,7 @@ module _ (kind number used : ℕ) (b : List ℕ) where
   unfolding block_verdict
   taken-length h =
       eqb-true (length b) block_bytes
-      (not_false (eqb (length b) block_bytes) (if_taken_lem (not (eqb (length b) block_bytes)) BadLength 0 (head_taken _ _ h)))
+      (not-false (eqb (length b) block_bytes) (if_taken_lem (not (eqb (length b) block_bytes)) BadLength 0 (head_taken _ _ h)))
 
   -- what is handed back, and from which place on
   module _ (v : Verdict) (p : v ≡ block_verdict kind number used b) where

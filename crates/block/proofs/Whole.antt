@@ -8,7 +8,7 @@ use native.Mathlib.Omega.{arith}
 use lib.Dec.{eqb}
 use lib.ListN.{length, get_or, take, drop, replicate, length-append, length-drop, length-replicate, get_or-replicate, take-append-drop, get_or-append}
 use lib.Seq.{drop-cons, drop-drop, get_or-drop, get_or-take, ext_get_or, length-take-le, get_or-append-add}
-use borrow.Author.Tests.{eq-eqb, eqb-true, not_false}
+use borrow.Author.Tests.{eq-eqb, eqb-true, not-false}
 use Rattle.edition.specs.declared.Verdict.TheVariants.{Taken}
 use Rattle.edition.specs.declared.Why.TheVariants.{BadLength, BadCheck, BadBlock}
 use Rattle.edition.specs.Stored.{block_bytes, front_bytes, payload_bytes, table_kind, entry_bytes}
@@ -34,7 +34,7 @@ zeros s i k l h =
     (λ j m.
     let low : j < k = omega (arith, length-drop i s) in
     get_or-drop i s j 0
-    ∙ (eqb-true (get_or s (i + j) 0) 0 (not_false _ (some_none (λ j. not (eqb (get_or s (i + j) 0) 0)) k h j low))
+    ∙ (eqb-true (get_or s (i + j) 0) 0 (not-false _ (some_none (λ j. not (eqb (get_or s (i + j) 0) 0)) k h j low))
     ∙ sym (get_or-replicate k j 0 0 low)))
 
 -- what a block that is taken holds
@@ -43,7 +43,7 @@ module _ (kind number used : ℕ) (b : List ℕ) (h : block_verdict kind number 
   unfolding block_verdict bad_check
   taken_check =
       eqb-true (number_in b 6 2) (check_of b)
-      (not_false _ (if_taken_lem (bad_check b) BadCheck number (head_taken _ _ (rest-taken _ _ h))))
+      (not-false _ (if_taken_lem (bad_check b) BadCheck number (head_taken _ _ (rest-taken _ _ h))))
 
   sound : bad_block kind number used b ≡ false
   unfolding block_verdict
@@ -57,7 +57,7 @@ module _ (kind number used : ℕ) (b : List ℕ) (h : block_verdict kind number 
   taken_such = parts.0
 
   taken-front : take 6 b ≡ front kind number used
-  taken-front = same_equal (take 6 b) (front kind number used) (not_false _ parts.1)
+  taken-front = same_equal (take 6 b) (front kind number used) (not-false _ parts.1)
 
   taken_unused : drop (front_bytes + used * record_bytes kind) b ≡ replicate (payload_bytes - used * record_bytes kind) 0
   unfolding bad_filler
@@ -222,7 +222,7 @@ module _ (kind number used : ℕ) (b : List ℕ) (h : block_verdict kind number 
 
   clean_byte : (i k j : ℕ) → dirty b i k ≡ false → j < k → get_or b (i + j) 0 ≡ 0
   unfolding dirty
-  clean_byte i k j d l = eqb-true (get_or b (i + j) 0) 0 (not_false _ (some_none (λ j. not (eqb (get_or b (i + j) 0) 0)) k d j l))
+  clean_byte i k j d l = eqb-true (get_or b (i + j) 0) 0 (not-false _ (some_none (λ j. not (eqb (get_or b (i + j) 0) 0)) k d j l))
 
   record_byte : (i k : ℕ) → front_bytes + i ≡ k → i < used * record_bytes kind → get_or b k 0 ≡ 0 → get_or (records kind number used b h) i 0 ≡ 0
   unfolding records

@@ -1,5 +1,6 @@
 // A block of the stored form: what one is refused for, its payload, and how one is made.
 #![tactic(auto)]
+
 ghost use Rattle.std.specs.Prelude.{◌≡◌, false, ◌+◌, ◌*◌, ◌<◌, ◌≤◌, length};
 ghost use Rattle.edition.specs.Stored.{block_bytes, front_bytes, entry_bytes};
 ghost use Rattle.rows.specs.Count.{some_to};
@@ -28,6 +29,7 @@ const FIRST_ZERO: usize = 3;
 const LAST_ZEROS: usize = 10;
 
 // The sum of words, with what is carried out of 16 bits added in again.
+#[tactic(auto, unfolding(crate::specs::Work::folded_sum))]
 fn folded(sum: u32) -> u16
     ensures { result ≡ folded_sum sum }
 {
@@ -39,6 +41,7 @@ fn folded(sum: u32) -> u16
 }
 
 // Word k of a block; the word of the check counts as 0.
+#[tactic(auto, unfolding(crate::specs::Work::word_of))]
 fn word_at(b: &[u8], k: usize) -> u16
     requires { k < block_words }
     ensures { result ≡ word_of b.now k }
@@ -64,6 +67,7 @@ fn check_of(b: &[u8]) -> u16
 }
 
 // How many records a block of a kind holds; 0 where the kind is none of the three.
+#[tactic(auto, unfolding(crate::specs::Block::capacity))]
 fn capacity_of(kind: u16) -> usize
     ensures { result ≡ capacity kind }
 {
@@ -80,6 +84,7 @@ fn capacity_of(kind: u16) -> usize
 }
 
 // How many bytes a record of a kind takes; 0 where the kind is none of the three.
+#[tactic(auto, unfolding(crate::specs::Block::record_bytes))]
 fn bytes_of_record(kind: u16) -> usize
     ensures { result ≡ record_bytes kind }
 {
@@ -96,6 +101,7 @@ fn bytes_of_record(kind: u16) -> usize
 }
 
 // Whether no block has this kind and used count.
+#[tactic(auto, unfolding(crate::specs::Block::no_such_block))]
 fn no_such_block(kind: u16, used: u16) -> bool
     ensures { result ≡ no_such_block kind used }
 {
@@ -106,6 +112,7 @@ fn no_such_block(kind: u16, used: u16) -> bool
 }
 
 // Whether one of the bytes from a place on is not 0.
+#[tactic(auto, unfolding(crate::specs::Bytes::dirty))]
 fn is_dirty(b: &[u8], from: usize, count: usize) -> bool
     requires { from + count ≤ length b.now }
     ensures { result ≡ dirty b.now from count }

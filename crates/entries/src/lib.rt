@@ -1,5 +1,6 @@
 // Entries in a lent row, a record each. How an entry lies in memory is known here and nowhere else.
 #![tactic(auto)]
+
 ghost use Rattle.std.specs.Prelude.{◌≡◌, [], ◌*◌, ◌<◌, min};
 ghost use Rattle.edition.specs.Limits.{node_limit, entry_width};
 ghost use Rattle.entries.specs.Row.{entries_in, entry_from, entry_at, put_entry, past_entries};
@@ -14,6 +15,7 @@ pub fn entries_in(row: &[u64]) -> usize
 }
 
 // An entry whose every number is 0.
+#[tactic(auto, unfolding(crate::specs::Row::entry_from))]
 fn no_entry() -> Entry
     ensures { result ≡ entry_from [] }
 {
@@ -70,6 +72,7 @@ pub fn entry_at(row: &[u64], x: usize) -> Entry
 }
 
 // Writes the entry of a node that the row holds one of.
+#[tactic(auto, unfolding(crate::specs::Row::entry_row))]
 pub fn put_there(row: &mut [u64], x: usize, e: Entry)
     requires { x < entries_in row.old }
     ensures { row.new ≡ put_entry row.old x e }
@@ -98,6 +101,7 @@ pub fn put_entry(row: &mut [u64], x: usize, e: Entry)
 }
 
 // What lies past the first n entries: that part of the lent row.
+#[tactic(auto, unfolding(crate::specs::Row::past_entries, rows::specs::Records::past_records))]
 pub fn past_entries(row: &[u64], n: usize) -> &[u64]
     ensures { result.now ≡ past_entries n row.now }
 {

@@ -7,7 +7,7 @@ use Prim.Native.Nat.{ℕ}
 use native.Mathlib.Omega.{arith}
 use lib.Dec.{eqb}
 use lib.ListN.{length}
-use borrow.Author.Tests.{eqb-true, eq-eqb, ne_eqb, not_true}
+use borrow.Author.Tests.{eqb-true, eq-eqb, ne_eqb, not-true}
 use Rattle.rows.specs.Lists.{has, up_to}
 use Rattle.rows.proofs.Tests.{clash, either, or_none, or_right, or_swap, and_left, and_right}
 use Rattle.rows.proofs.Listed.{has-append, has_head}
@@ -55,7 +55,7 @@ joins-one l u v h f s =
 pub crossing_other : (t : Tree) (x e : ℕ) (l : Link) → crosses t x e l ≡ true → eqb e (t.link x) ≡ false
 unfolding crosses
 crossing_other t x e l k =
-    not_true (eqb e (t.link x))
+    not-true (eqb e (t.link x))
     (and_right (in_service l) (not (eqb e (t.link x))) (and_left (in_service l && not (eqb e (t.link x))) _ k))
 
 -- what is among the values over a list is the value of one of them

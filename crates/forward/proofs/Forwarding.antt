@@ -8,7 +8,7 @@ use native.Mathlib.Omega.{arith}
 use lib.Dec.{eqb}
 use lib.ListN.{length, drop, length-append, length-drop}
 use lib.Seq.{take-append_seam, drop-append_seam}
-use borrow.Author.Tests.{eqb-true, eq-eqb, ne_eqb, not_false}
+use borrow.Author.Tests.{eqb-true, eq-eqb, ne_eqb, not-false}
 use Rattle.edition.specs.declared.Refusal.{Refusal}
 use Rattle.edition.specs.declared.Verdict.{Verdict}
 use Rattle.edition.specs.declared.Verdict.TheVariants.{Taken, Refused}
@@ -129,7 +129,7 @@ module _ (g : Net) (a : Ask) (ordinary detour' : List ℕ) (ok : forward_verdict
   -- the failed node of a start that is cut off has a swap link
   pub has_swap : cut_off g a ≡ true → (entry g a.failed).state ≡ swap_state
   unfolding stranded
-  has_swap c = eqb-true (entry g a.failed).state swap_state (not_false (eqb (entry g a.failed).state swap_state) (rw c at unstranded))
+  has_swap c = eqb-true (entry g a.failed).state swap_state (not-false (eqb (entry g a.failed).state swap_state) (rw c at unstranded))
 
   module _ (c : cut_off g a ≡ true) where
     it : Around g a.failed a.start (lower_end g a) (upper_end g a)

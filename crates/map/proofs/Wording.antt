@@ -10,7 +10,7 @@ use native.Mathlib.Omega.{arith}
 use lib.Count.{ones, ones-le, count_trailing_zeros}
 use lib.Dec.{eqb, ltb}
 use lib.ListN.{get_or}
-use borrow.Author.Tests.{not_false, eqb-true, eq-eqb, ltb-true, ltb-false}
+use borrow.Author.Tests.{not-false, eqb-true, eq-eqb, ltb-true, ltb-false}
 use Rattle.edition.specs.declared.Found.{Found}
 use Rattle.edition.specs.declared.Found.TheVariants.{Nothing, At}
 use Rattle.edition.specs.Limits.{no_node, map_words, word_bits}
@@ -95,7 +95,7 @@ module _ (p : ℕ → Bool) (n : ℕ) (few : n ≤ map_words * word_bits) (past 
     unfolding some_in word_by
     none_in i l h =
         packed_none (λ j. p (i * word_bits + j)) word_bits
-        (sym (word-is i l) ∙ eqb-true (get_or (words_by p row) i 0) 0 (not_false (eqb (get_or (words_by p row) i 0) 0) h))
+        (sym (word-is i l) ∙ eqb-true (get_or (words_by p row) i 0) 0 (not-false (eqb (get_or (words_by p row) i 0) 0) h))
 
     none_below : (i x : ℕ) → i ≤ map_words → ((k : ℕ) → k < i → some_in (words_by p row) k ≡ false) → x < i * word_bits → p x ≡ false
     none_below i x l h m =

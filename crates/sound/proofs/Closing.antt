@@ -4,7 +4,7 @@ use mathlib.Core.Path.{◌≡◌, refl}
 use mathlib.Core.Bool.{Bool, true, false, not}
 use Prim.Native.Nat.{ℕ, ◌<◌}
 use lib.Dec.{eqb, leb}
-use borrow.Author.Tests.{leb-false, not_true}
+use borrow.Author.Tests.{leb-false, not-true}
 use Rattle.rows.proofs.Tests.{clash, or3_false, not_so}
 use Rattle.network.specs.Network.{Net, in_service, touches, other_end}
 use Rattle.network.specs.Records.{bad_ends, unfit, bad_parent}
@@ -58,4 +58,4 @@ module _ (g : Net) (ends_ok : (e : ℕ) → e < g.links → bad_ends g.nodes (g.
   pub lost_for_ever : (u : ℕ) → u < g.nodes → no_route g u ≡ true → (k : ℕ) → arrives (tree_of g) k u ≡ false
   unfolding no_route
   lost_for_ever u l h k =
-      not_so (arrives (tree_of g) k u) (λ e. clash (cuts_none u k l e) (not_true (has_route (tree_of g) u) h))
+      not_so (arrives (tree_of g) k u) (λ e. clash (cuts_none u k l e) (not-true (has_route (tree_of g) u) h))

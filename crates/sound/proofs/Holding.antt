@@ -3,7 +3,7 @@ use mathlib.Core.Path.{◌≡◌, refl}
 use mathlib.Core.Bool.{Bool, true, false, not}
 use Prim.Native.Nat.{ℕ, ◌<◌, ◌≤◌}
 use lib.Dec.{eqb, leb, ltb}
-use borrow.Author.Tests.{eqb-false, leb-false, ltb-false, not_false}
+use borrow.Author.Tests.{eqb-false, leb-false, ltb-false, not-false}
 use Rattle.edition.specs.Limits.{node_limit, link_limit, depth_limit, whole_search, memory_limits}
 use Rattle.rows.specs.Lists.{differ}
 use Rattle.rows.proofs.Tests.{clash, or3_false}
@@ -72,10 +72,10 @@ module _ (g : Net) (s : Sound g) where
     parent_in = leb-false g.links (g.parent u) parent_says.0
 
     pub parent-serves : in_service (g.link (g.parent u)) ≡ true
-    parent-serves = not_false (in_service (g.link (g.parent u))) parent_says.1
+    parent-serves = not-false (in_service (g.link (g.parent u))) parent_says.1
 
     pub parent-touches : touches (g.link (g.parent u)) u ≡ true
-    parent-touches = not_false (touches (g.link (g.parent u)) u) parent_says.2
+    parent-touches = not-false (touches (g.link (g.parent u)) u) parent_says.2
 
   -- every node has a route
   pub home : (u : ℕ) → u < g.nodes → Home (tree_of g) u
@@ -96,4 +96,4 @@ module _ (g : Net) (s : Sound g) where
   -- a link in service keeps the two inequalities
   pub link-short : (e : ℕ) → e < g.links → in_service (g.link e) ≡ true → short (tree_of g) (g.link e).first (g.link e).second (g.link e).length ≡ true
   unfolding not_short
-  link-short e l q = not_false _ (rw q at (s.recorded.short_ok e l))
+  link-short e l q = not-false _ (rw q at (s.recorded.short_ok e l))

@@ -2,7 +2,7 @@
 use mathlib.Core.Path.{◌≡◌, sym, subst, ◌∙◌}
 use mathlib.Core.Bool.{false}
 use Prim.Native.Nat.{ℕ, ◌<◌}
-use borrow.Author.Tests.{not_false}
+use borrow.Author.Tests.{not-false}
 use Rattle.edition.specs.declared.Limits.{Limits}
 use Rattle.edition.specs.declared.Search.{Search}
 use Rattle.edition.specs.declared.Verdict.{Verdict}
@@ -39,7 +39,7 @@ pub record Sound (g : Net) : Type 0 where
 
 home-is : (g : Net) (u : ℕ) → no_route g u ≡ false → Home (tree_of g) u
 unfolding no_route
-home-is g u h = not_false (has_route (tree_of g) u) h
+home-is g u h = not-false (has_route (tree_of g) u) h
 
 pub home-not : (g : Net) (u : ℕ) → Home (tree_of g) u → no_route g u ≡ false
 unfolding no_route

@@ -6,7 +6,7 @@ use mathlib.Core.List.{List}
 use Prim.Native.Nat.{ℕ, ◌<◌, ◌≤◌}
 use native.Mathlib.Omega.{arith}
 use lib.Dec.{eqb}
-use borrow.Author.Tests.{eqb-true, eqb-false, not_true}
+use borrow.Author.Tests.{eqb-true, eqb-false, not-true}
 use Rattle.rows.specs.Lists.{has, up_to}
 use Rattle.rows.proofs.Tests.{clash, either, and_left, and_right, not_so}
 use Rattle.tree.specs.Tree.{Tree, route, dist, under, inside}
@@ -68,7 +68,7 @@ module _ (t : Tree) (all : (u : ℕ) → u < t.size → Home t u) (closed : (u :
   pub child_says : (p y : ℕ) → child t p y ≡ true → (eqb y t.root ≡ false) × (t.up y ≡ p)
   unfolding child
   child_says p y e = (
-    not_true (eqb y t.root) (and_left (not (eqb y t.root)) (eqb (t.up y) p) e),
+    not-true (eqb y t.root) (and_left (not (eqb y t.root)) (eqb (t.up y) p) e),
     eqb-true (t.up y) p (and_right (not (eqb y t.root)) (eqb (t.up y) p) e),
   )
 

@@ -3,7 +3,7 @@ use mathlib.Core.Path.{◌≡◌}
 use mathlib.Core.Bool.{true, false, not}
 use Prim.Native.Nat.{ℕ, ◌<◌, ◌≤◌}
 use lib.Dec.{eqb}
-use borrow.Author.Tests.{not_true}
+use borrow.Author.Tests.{not-true}
 use Rattle.rows.specs.Count.{max_to, only_if}
 use Rattle.rows.proofs.Tests.{and_left, and_right}
 use Rattle.rows.proofs.Counting.{max_bound, max-reach, only_small}
@@ -56,4 +56,4 @@ module _ (t : Tree) (all : (u : ℕ) → u < t.size → Home t u) where
         max_bound (λ u. only_if (beside t x u) (dist t u)) t.size b
         (λ u l. only_small (beside t x u) (dist t u) b
         (λ q. h u l (and_left (under t (t.up x) u) (not (under t x u)) q)
-        (not_true (under t x u) (and_right (under t (t.up x) u) (not (under t x u)) q))))
+        (not-true (under t x u) (and_right (under t (t.up x) u) (not (under t x u)) q))))

@@ -1,6 +1,6 @@
 -- Offering a link to a node: its record goes on from the entry of e links to that of one more. Assumes nothing.
 use Rattle.std.proofs.Common.{◌≡◌, ℕ, suc, ◌+◌, ◌%◌, ◌<◌, ◌≤◌, Bool, true, false, cond, not, ◌&&◌, ◌||◌, eqb, ltb, leb, List, length, get_or, sym, refl, ap, ◌∙◌, subst, add-one, arith, ltb-false, le-ltb, lt-ltb, eq-eqb, ne_eqb, eqb-true, leb-true}
-use borrow.Author.Tests.{not_true, not_false}
+use borrow.Author.Tests.{not-true, not-false}
 use Rattle.edition.specs.declared.Search.{Search}
 use Rattle.edition.specs.declared.Swap.{Swap}
 use Rattle.edition.specs.declared.Entry.{Entry}
@@ -120,8 +120,8 @@ module _ (rule : ℕ) (old : Entry) (c : Costs) (h : unbettered rule old c ≡ t
       all-four (eqb old.state swap_state) (not (ltb c.sum old.sum.cost)) (not (ltb c.incr old.incr.cost)) _
       (and_left (no_better old c) _ h) in (
         z.0,
-        ltb-false c.sum old.sum.cost (not_true _ z.1),
-        ltb-false c.incr old.incr.cost (not_true _ z.2),
+        ltb-false c.sum old.sum.cost (not-true _ z.1),
+        ltb-false c.incr old.incr.cost (not-true _ z.2),
         leb-true old.max.cost c.max z.3,
       )
 
@@ -289,7 +289,7 @@ module _ {g : Net} {search : Search} {links asked survey ranks row : List ℕ} {
     worth_tied q {b} t =
         record {
           yes = λ z. on;
-          no = λ z. offered-kept (rw (q, sym t ∙ not_false b z) (or_right (not (eqb search.rule nearer_first)) true refl));
+          no = λ z. offered-kept (rw (q, sym t ∙ not-false b z) (or_right (not (eqb search.rule nearer_first)) true refl));
         }
 
     offered-one :

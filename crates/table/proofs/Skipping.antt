@@ -1,7 +1,7 @@
 -- Which links are offered: those out of service and the tree's own cross nothing, and one whose ends have one rank crosses no node
 -- asked for. Assumes nothing.
 use Rattle.std.proofs.Common.{◌≡◌, ℕ, ◌+◌, ◌^◌, ◌<◌, ◌≤◌, Bool, true, false, not, ◌&&◌, eqb, List, length, get_or, sym, refl, ap, ◌∙◌, subst, arith, eq-eqb, ne_eqb, eqb-true}
-use borrow.Author.Tests.{not_false}
+use borrow.Author.Tests.{not-false}
 use Rattle.edition.specs.declared.Search.{Search}
 use Rattle.edition.specs.Limits.{longest, no_link}
 use Rattle.edition.specs.Entries.{first_end, second_end}
@@ -42,7 +42,7 @@ module _ (g : Net) (s : Sound g) (e : ℕ) (there : e < g.links) where
       no : eqb u g.search.root ≡ true → ⊥
       no r =
           let b : not (eqb (g.parent u) no_link) ≡ false = rw r at (s.recorded.parents-ok u l) in
-          omega (arith, there, links-few g s, q, eqb-true (g.parent u) no_link (not_false (eqb (g.parent u) no_link) b))
+          omega (arith, there, links-few g s, q, eqb-true (g.parent u) no_link (not-false (eqb (g.parent u) no_link) b))
 
   -- a node x but u has both u and its parent below it or none of them
   same_side : (u : ℕ) → u < g.nodes → g.parent u ≡ e → (x : ℕ) → eqb u x ≡ false → under (tree_of g) x u ≡ under (tree_of g) x (other_end (g.link e) u)

@@ -1,6 +1,7 @@
 // Plain text by lines and words: what the desk programs read. Words stand between blanks; `#` begins a comment, which goes to
 // the end of the line. A word is answered as one number: itself where it is a number up to `Word::MOST`, else one of the marks.
 #![tactic(auto)]
+
 ghost use Rattle.std.specs.Prelude.{◌≡◌, not, ◌+◌, ◌-◌, ◌≤◌, min, eqb, length, get_or};
 ghost use Rattle.rows.specs.Count.{some_to};
 ghost use Rattle.text.specs.Words.{newline, byte_at, seek_from, is_blank, is_past, line_end, word_from, word_to};
@@ -69,6 +70,7 @@ pub struct Step {
 }
 
 // The byte at a place; the end of a line past the text.
+#[tactic(auto, unfolding(crate::specs::Words::byte_at))]
 fn byte_at(text: &[u8], i: usize) -> u8
     ensures { result ≡ byte_at text.now i }
 {
@@ -76,6 +78,7 @@ fn byte_at(text: &[u8], i: usize) -> u8
 }
 
 // Where the line that holds a place ends: at the next end of line, or at the text's end.
+#[tactic(auto, unfolding(crate::specs::Words::line_end))]
 fn line_end(text: &[u8], at: usize) -> usize
     ensures { result ≡ line_end text.now at }
 {
@@ -90,6 +93,7 @@ fn line_end(text: &[u8], at: usize) -> usize
 }
 
 // Whether a byte stands between words.
+#[tactic(auto, unfolding(crate::specs::Words::is_blank))]
 fn is_blank(byte: u8) -> bool
     ensures { result ≡ is_blank byte }
 {
@@ -103,6 +107,7 @@ fn is_blank(byte: u8) -> bool
 }
 
 // Whether a byte ends a word: a blank, or the begin of a comment.
+#[tactic(auto, unfolding(crate::specs::Words::is_past))]
 fn is_past(byte: u8) -> bool
     ensures { result ≡ is_past byte }
 {
@@ -113,6 +118,7 @@ fn is_past(byte: u8) -> bool
 }
 
 // Where the next word begins, or the line's end where there is none.
+#[tactic(auto, unfolding(crate::specs::Words::word_from))]
 fn word_from(text: &[u8], at: usize, end: usize) -> usize
     ensures { result ≡ word_from text.now at end }
 {
@@ -127,6 +133,7 @@ fn word_from(text: &[u8], at: usize, end: usize) -> usize
 }
 
 // Where the word that begins at a place ends.
+#[tactic(auto, unfolding(crate::specs::Words::word_to))]
 fn word_to(text: &[u8], from: usize, end: usize) -> usize
     ensures { result ≡ word_to text.now from end }
 {
@@ -141,6 +148,7 @@ fn word_to(text: &[u8], from: usize, end: usize) -> usize
 }
 
 // A number with one more digit; no number where that is none or the number gets too large.
+#[tactic(auto, unfolding(crate::specs::Words::with_digit))]
 fn with_digit(value: u32, byte: u8) -> u32
     ensures { result ≡ with_digit value byte }
 {
@@ -191,6 +199,7 @@ fn is_same(text: &[u8], from: usize, name: &[u8]) -> bool
 }
 
 // Whether the bytes from one place to before another are the name.
+#[tactic(auto, unfolding(crate::specs::Words::is_named))]
 fn is_named(text: &[u8], from: usize, to: usize, name: &[u8]) -> bool
     ensures { result ≡ is_named text.now from to name.now }
 {
@@ -207,6 +216,7 @@ fn is_named(text: &[u8], from: usize, to: usize, name: &[u8]) -> bool
 }
 
 // The mark of the name among those that begin a line.
+#[tactic(auto, unfolding(crate::specs::Words::kind_of))]
 fn kind_of(text: &[u8], from: usize, to: usize) -> u32
     ensures { result ≡ kind_of text.now from to }
 {
@@ -226,6 +236,7 @@ fn kind_of(text: &[u8], from: usize, to: usize) -> u32
 }
 
 // The mark of the name, among all of them.
+#[tactic(auto, unfolding(crate::specs::Words::name_of))]
 fn name_of(text: &[u8], from: usize, to: usize) -> u32
     ensures { result ≡ name_of text.now from to }
 {
@@ -242,6 +253,7 @@ fn name_of(text: &[u8], from: usize, to: usize) -> u32
 }
 
 // The value of the word from one place to before another.
+#[tactic(auto, unfolding(crate::specs::Words::value_of))]
 fn value_of(text: &[u8], from: usize, to: usize) -> u32
     ensures { result ≡ value_of text.now from to }
 {
@@ -256,6 +268,7 @@ fn value_of(text: &[u8], from: usize, to: usize) -> u32
 }
 
 // The next word of a line from a place on.
+#[tactic(auto, unfolding(crate::specs::Words::next_value, crate::specs::Words::next_end))]
 fn next(text: &[u8], at: usize, end: usize) -> Word
     ensures { (result.value ≡ next_value text.now end at) × (result.to ≡ next_end text.now end at) }
 {
@@ -290,6 +303,7 @@ fn line_of(text: &[u8], at: usize, end: usize) -> Line
 }
 
 // Whether the byte at a place is a carriage return with no line feed behind it.
+#[tactic(auto, unfolding(crate::specs::Words::is_stray))]
 fn is_stray(text: &[u8], i: usize) -> bool
     ensures { result ≡ is_stray text.now i }
 {
@@ -328,6 +342,7 @@ fn within(text: &[u8], n: usize) -> usize
 
 impl Cursor {
     // The first line, which begins behind a byte order mark.
+    #[tactic(auto, unfolding(crate::specs::Words::first_line))]
     pub fn begin(text: &[u8]) -> Cursor
         ensures { result ≡ first_line text.now }
     {
@@ -339,6 +354,7 @@ impl Cursor {
 
     // Whether the line has a carriage return with no line feed behind it. Such a text is of another system, which may have meant
     // it for the end of a line, or was cut off.
+    #[tactic(auto, unfolding(crate::specs::Words::is_torn))]
     pub fn is_torn(self, text: &[u8]) -> bool
         ensures { result ≡ is_torn text.now self.at }
     {
@@ -348,6 +364,7 @@ impl Cursor {
 
     // What the line says, and the line behind it, which begins past the text where this is the last. The numbers go no further
     // than a text of that length has lines.
+    #[tactic(auto, unfolding(crate::specs::Words::next_line))]
     pub fn next_line(self, text: &[u8]) -> Step
         ensures { result ≡ next_line text.now self }
     {
@@ -363,6 +380,7 @@ impl Cursor {
 }
 
 // The service mark that a word of a line names: `up` is in service, any other word withdrawn.
+#[tactic(auto, unfolding(crate::specs::Words::mark_of))]
 pub fn mark_of(word: u32) -> u16
     ensures { result ≡ mark_of word }
 {

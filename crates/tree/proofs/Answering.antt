@@ -1,7 +1,7 @@
 -- What is answered of one node, of two, and of all: from the verdicts and climbs of the code to the definitions. Assumes nothing.
 use Rattle.std.proofs.Common.{◌≡◌, ℕ, ◌+◌, ◌-◌, ◌*◌, ◌<◌, ◌≤◌, false, ◌&&◌, ltb, List, [], ◌∷◌, ◌++◌, length, drop, sym, refl, ap, ◌∙◌, le_trans, mul-le-mul_right, arith, ltb-false, ltb-true, le-ltb}
 use lib.Seq.{sets, sets-eq}
-use borrow.Author.Tests.{not_false}
+use borrow.Author.Tests.{not-false}
 use Rattle.edition.specs.declared.Refusal.{Refusal}
 use Rattle.edition.specs.declared.Verdict.{Verdict}
 use Rattle.edition.specs.declared.Verdict.TheVariants.{Taken, Refused}
@@ -46,7 +46,7 @@ room_passes n room h l =
 way-taken : (g : Net) (u : ℕ) → way_verdict g u ≡ Taken → (g.nodes ≤ node_limit) × (u < g.nodes) × Home (tree_of g) u
 unfolding way_verdict lost
 way-taken g u h =
-    let e = not_false (ltb u g.nodes && has_route (tree_of g) u) (if_taken_lem _ NoRoute u (head_taken _ _ (rest-taken _ _ h))) in (
+    let e = not-false (ltb u g.nodes && has_route (tree_of g) u) (if_taken_lem _ NoRoute u (head_taken _ _ (rest-taken _ _ h))) in (
       few-nodes g.nodes (if_taken_lem _ NodeCount 0 (head_taken _ _ h)),
       ltb-true u g.nodes (and_left (ltb u g.nodes) (has_route (tree_of g) u) e),
       and_right (ltb u g.nodes) (has_route (tree_of g) u) e,

@@ -1,6 +1,6 @@
 -- The climb onto a row that has the root: it ends at the first node of the route that is in the row. Assumes nothing.
 use Rattle.std.proofs.Common.{◌≡◌, ℕ, ◌+◌, ◌-◌, ◌<◌, ◌≤◌, Bool, true, false, not, ◌||◌, eqb, List, [], ◌∷◌, ◌++◌, length, get_or, sym, refl, ap, ◌∙◌, subst, arith, eqb-true}
-use borrow.Author.Tests.{not_true, not_false}
+use borrow.Author.Tests.{not-true, not-false}
 use Rattle.edition.specs.declared.Search.{Search}
 use Rattle.edition.specs.Limits.{node_limit, longest}
 use Rattle.rows.specs.Lists.{has, up_to}
@@ -37,11 +37,11 @@ module _ (links parents : List ℕ) (search : Search) (held : (i : ℕ) → get_
 
   module _ (c : Climb) (o : Onward (tree_in links parents search) u row c) where
     pub onward_end : (b : Bool) → b ≡ has c.node row → not b ≡ false → Onto (tree_in links parents search) u row c
-    onward_end b q e = record { along = o.along; here = sym q ∙ not_false b e; none = o.none }
+    onward_end b q e = record { along = o.along; here = sym q ∙ not-false b e; none = o.none }
 
     module _ (top : has search.root row ≡ true) (b : Bool) (q : b ≡ has c.node row) (e : not b ≡ true) where
       out : has c.node row ≡ false
-      out = sym q ∙ not_true b e
+      out = sym q ∙ not-true b e
 
       away : eqb c.node (tree_in links parents search).root ≡ false
       away = off_root links parents search c.node (λ z. clash top (subst (λ (v : ℕ). has v row ≡ false) z out))

@@ -1,6 +1,6 @@
 -- `record::put_header` meets its contract. Assumes nothing.
 use Rattle.record.proofs.Putting.{no_room, with_room, put_is}
-use borrow.Author.Tests.{not_true, not_false}
+use borrow.Author.Tests.{not-true, not-false}
 use Rattle.record.specs.Record.{header_record}
 use borrow.Author.Rules.{rules}
 use Rattle.record.proofs.put_header.Statement.{statement}
@@ -13,7 +13,7 @@ same_length : tie.Need-same-length
 same_length c = search rules
 
 returns : tie.Need-returns
-returns c = no_room _ _ _ _ _ c.before.has_room.ensures (not_true _ c.if1.true)
+returns c = no_room _ _ _ _ _ c.before.has_room.ensures (not-true _ c.if1.true)
 
 cast-put-four : tie.Need-overflow-cast-put-four
 cast-put-four c = search rules
@@ -25,7 +25,7 @@ put-four-requires : tie.Need-put-four-requires
 put-four-requires c κs =
     let if1 = c.before.before.before.if1 in
     let has_room = c.before.before.before.before.has_room in
-    with_room _ _ _ _ has_room.ensures (not_false _ if1.false)
+    with_room _ _ _ _ has_room.ensures (not-false _ if1.false)
 
 same-length-2 : tie.Need-same-length-2
 same-length-2 c = search rules
@@ -35,7 +35,7 @@ unfolding header_record
 returns-2 c =
     let if1 = c.before.before.before.before.before.before.if1 in
     let has_room = c.before.before.before.before.before.before.before.has_room in
-    put_is _ _ _ _ _ has_room.ensures (not_false _ if1.false) _ c.before.before.put_four.ensures
+    put_is _ _ _ _ _ has_room.ensures (not-false _ if1.false) _ c.before.before.put_four.ensures
 
 pub put-header-spec : {M : Type 1} → statement M
 put-header-spec =

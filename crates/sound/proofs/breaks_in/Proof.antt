@@ -1,5 +1,5 @@
 -- `sound::breaks_in` meets its contract. Assumes nothing.
-use borrow.Author.Tests.{not_true, not_false}
+use borrow.Author.Tests.{not-true, not-false}
 use Rattle.sound.specs.Work.{breaks_in}
 use borrow.Author.Rules.{rules}
 use Rattle.sound.proofs.breaks_in.Statement.{statement}
@@ -10,7 +10,7 @@ in-service-requires c κs = search rules
 
 returns : tie.Need-returns
 unfolding breaks_in
-returns c = rw (← c.before.in-service.ensures, not_true c.before.in-service.result c.if1.true)
+returns c = rw (← c.before.in-service.ensures, not-true c.before.in-service.result c.if1.true)
 
 cast-known-at : tie.Need-overflow-cast-known-at
 cast-known-at c = search rules
@@ -33,7 +33,7 @@ returns-2 c =
     let known_at_lem = c.before.before.before.known-at in
     let if1 = c.before.before.before.before.before.if1 in
     let in-service = c.before.before.before.before.before.before.in-service in
-    rw (← in-service.ensures, not_false in-service.result if1.false, ← known_at_lem.ensures, ← c.before.known-at2.ensures, ← c.keeps-short.ensures)
+    rw (← in-service.ensures, not-false in-service.result if1.false, ← known_at_lem.ensures, ← c.before.known-at2.ensures, ← c.keeps-short.ensures)
 
 pub breaks-in-spec : {M : Type 1} → statement M
 breaks-in-spec =

@@ -2,7 +2,7 @@
 use Rattle.table.specs.Prefix.{all_settled}
 use Rattle.edition.specs.declared.Entry.{Entry}
 use Rattle.std.proofs.Common.{sym, ap, ◌∙◌, arith, rules}
-use borrow.Author.Tests.{not_true, not_false}
+use borrow.Author.Tests.{not-true, not-false}
 use Rattle.table.proofs.Offering.{has-rank, has-entry, node-few, is_asked_lem, not_asked, worth_none, worth_lower, worth_not, worth_tied}
 use Rattle.table.proofs.is_worth.Statement.{statement}
 use Rattle.table.proofs.is_worth.Tie as tie
@@ -33,7 +33,7 @@ returns-2 c =
     let if1 = c.before.before.before.if1 in
     let entry-there = c.before.before.entry-there in
     λ g links asked survey e k h p.
-    worth_lower h (is_asked_lem h if1.false) entry-there.ensures p (sym c.before.no-better.ensures ∙ not_true _ c.if2.true)
+    worth_lower h (is_asked_lem h if1.false) entry-there.ensures p (sym c.before.no-better.ensures ∙ not-true _ c.if2.true)
 
 returns-3 : tie.Need-returns-3
 returns-3 c =
@@ -41,7 +41,7 @@ returns-3 c =
     let entry-there = c.before.before.before.before.entry-there in
     let no-better = c.before.before.before.no-better in
     λ g links asked survey e k h p.
-    worth_not h (is_asked_lem h if1.false) entry-there.ensures p (sym no-better.ensures ∙ not_false _ c.before.before.if2.false) c.if3.true
+    worth_not h (is_asked_lem h if1.false) entry-there.ensures p (sym no-better.ensures ∙ not-false _ c.before.before.if2.false) c.if3.true
 
 entry-there-requires-2 : tie.Need-entry-there-requires-2
 entry-there-requires-2 c κs = has-entry c.before.before.before.before.before.before.before.before.before.before.requires.6
@@ -57,7 +57,7 @@ returns-4 c =
     let no-better = c.before.before.before.before.before.no-better in
     let entry-there2 = c.before.entry-there2 in
     λ g links asked survey e k h p.
-    worth_tied h (is_asked_lem h if1.false) entry-there.ensures p (sym no-better.ensures ∙ not_false _ c.before.before.before.before.if2.false)
+    worth_tied h (is_asked_lem h if1.false) entry-there.ensures p (sym no-better.ensures ∙ not-false _ c.before.before.before.before.if2.false)
     (c.all_settled.ensures ∙ ap (λ (o : Entry). all_settled o args.c) (entry-there2.ensures ∙ sym entry-there.ensures))
 
 pub is-worth-spec : {M : Type 1} → statement M

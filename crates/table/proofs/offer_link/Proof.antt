@@ -1,7 +1,7 @@
 -- `table::offer_link` meets its contract. Assumes nothing.
 use Rattle.table.proofs.Skipping.{skip_idle, skip_first, skip_second, skip_ranked, first-ranked, second_ranked}
 use Rattle.table.proofs.Skipping.{first_starts, second_starts, k_fits, climbing}
-use borrow.Author.Tests.{not_true, not_false}
+use borrow.Author.Tests.{not-true, not-false}
 use Rattle.std.proofs.Common.{arith, rules}
 use Rattle.table.proofs.offer_link.Statement.{statement}
 use Rattle.table.proofs.offer_link.Tie as tie
@@ -16,7 +16,7 @@ returns : tie.Need-returns
 returns c =
     let link_at = c.before.before.link_at in
     let pre = c.before.before.before.before.before.before.before.before.requires in
-    λ asked h. skip_idle _ _ _ h.surveyed pre.2 link_at.ensures asked _ c.before.in-service.ensures (not_true _ c.if1.true)
+    λ asked h. skip_idle _ _ _ h.surveyed pre.2 link_at.ensures asked _ c.before.in-service.ensures (not-true _ c.if1.true)
 
 cast-p : tie.Need-overflow-cast-p
 cast-p c = search rules
@@ -141,7 +141,7 @@ climb-link-requires c κs =
       _,
       pre.0,
       climbing _ _ _ sv pre.2 link_at.ensures one two (λ i. omega (arith, shared-slice-known.given i))
-          in-service.ensures (not_false _ if1.false) parent_of.ensures if2.false parent-of2.ensures
+          in-service.ensures (not-false _ if1.false) parent_of.ensures if2.false parent-of2.ensures
           if3.false pre.1,
     )
 
@@ -174,7 +174,7 @@ returns-5 c =
     let two = begin-side2.ensures _ (second_starts _ _ _ sv pre.2 link_at.ensures) in
     climb-link.ensures _ asked
     (climbing _ _ _ sv pre.2 link_at.ensures one two (λ i. omega (arith, shared-slice-known.given i))
-    in-service.ensures (not_false _ if1.left) parent_of.ensures if2.false parent-of2.ensures
+    in-service.ensures (not-false _ if1.left) parent_of.ensures if2.false parent-of2.ensures
     if3.false h)
 
 pub offer-link-spec : {M : Type 1} → statement M

@@ -1,7 +1,7 @@
 -- `table::with_next` meets its contract. Assumes nothing.
 use Rattle.std.proofs.Common.{arith, rules}
 use Rattle.table.proofs.Carrying.{first-low, second_low, stays_idle, stays_own, stays_beside, crossed}
-use borrow.Author.Tests.{not_true, not_false}
+use borrow.Author.Tests.{not-true, not-false}
 use Rattle.table.proofs.with_next.Statement.{statement}
 use Rattle.table.proofs.with_next.Tie as tie
 
@@ -16,7 +16,7 @@ returns c =
     let link_at = c.before.before.link_at in
     let in-service = c.before.in-service in
     let pre = c.before.before.before.before.before.before.before.requires in
-    stays_idle _ _ _ pre.0 pre.1 link_at.ensures in-service.ensures pre.2 (not_true _ c.if1.true)
+    stays_idle _ _ _ pre.0 pre.1 link_at.ensures in-service.ensures pre.2 (not-true _ c.if1.true)
 
 parent-of-requires : tie.Need-parent-of-requires
 parent-of-requires c κs = search rules
@@ -77,7 +77,7 @@ with-crossed-requires c κs =
     let second = is-below2.ensures _ _ t (second_low _ _ _ t pre.1 link_at.ensures) in (
       _,
       crossed _ _ _ t pre.1 link_at.ensures in-service.ensures (λ i. omega (arith, shared-slice-known.given i))
-          (not_false _ if1.false) parent_of.ensures if2.false first second c.if3.false,
+          (not-false _ if1.false) parent_of.ensures if2.false first second c.if3.false,
       pre.2,
     )
 
@@ -97,7 +97,7 @@ returns-4 c =
     let first = is_below.ensures _ _ t (first-low _ _ _ t pre.1 link_at.ensures) in
     let second = is-below2.ensures _ _ t (second_low _ _ _ t pre.1 link_at.ensures) in
     c.with-crossed.ensures _ (crossed _ _ _ t pre.1 link_at.ensures in-service.ensures (λ i. omega (arith, shared-slice-known.given i))
-    (not_false _ if1.false) parent_of.ensures if2.false first second c.before.if3.false) pre.2
+    (not-false _ if1.false) parent_of.ensures if2.false first second c.before.if3.false) pre.2
 
 pub with-next-spec : {M : Type 1} → statement M
 with-next-spec =
