@@ -1,5 +1,6 @@
 // The check of a network and its tree: refusals 8 and 9, and 1 to 9 with 14 in their order.
 #![tactic(auto)]
+
 ghost use Rattle.std.specs.Prelude.{◌≡◌, ◌<◌, ◌≤◌};
 ghost use Rattle.edition.specs.Limits.{node_limit};
 ghost use Rattle.rows.specs.First.{first_to};
