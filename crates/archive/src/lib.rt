@@ -1,5 +1,6 @@
 // The file of a network and depth: which block holds which records, the writer and the reader.
 #![tactic(auto)]
+
 ghost use Rattle.std.specs.Prelude.{◌≡◌, ◌+◌, ◌*◌, ◌-◌, ◌<◌, ◌≤◌, min, ◌++◌, length, take, drop, replicate};
 ghost use Rattle.edition.specs.Limits.{node_limit, link_limit, entry_room};
 ghost use Rattle.edition.specs.Stored.{by_number, block_bytes, entry_bytes};
