@@ -69,7 +69,7 @@ fn read_bytes(raw: &mut [u8], n: usize) -> bool {
     if raw.len() < n {
         return false;
     }
-    io::read_full(libc::STDIN_FILENO, &mut raw[0..n]) == n
+    io::read_full(output::STDIN, &mut raw[0..n]) == n
 }
 
 // Reads the head of the next case, by way of raw bytes.
