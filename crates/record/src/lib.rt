@@ -1,5 +1,6 @@
 // Records as bytes.
 #![tactic(auto)]
+
 ghost use Rattle.std.specs.Prelude.{◌≡◌, ◌++◌, ◌+◌, ◌≤◌, leb, length};
 ghost use Rattle.std.proofs.lemmas.List.Edits.{sets};
 ghost use Rattle.edition.specs.Stored.{header_bytes, link_bytes, entry_bytes};
@@ -51,6 +52,7 @@ fn has_room(bytes: &[u8], at: usize, size: usize) -> bool
 }
 
 // Puts the header's record from a place on. Where it does not fit nothing is written; the same holds for the others.
+#[tactic(auto, unfolding(crate::specs::Record::header_record))]
 pub fn put_header(bytes: &mut [u8], at: usize, n: u16, m: u16, search: Search)
     ensures { bytes.new ≡ record_put at header_bytes (header_record n m search) bytes.old }
 {
@@ -68,6 +70,7 @@ pub fn put_header(bytes: &mut [u8], at: usize, n: u16, m: u16, search: Search)
 }
 
 // Puts a link's record.
+#[tactic(auto, unfolding(crate::specs::Record::link_record))]
 pub fn put_link(bytes: &mut [u8], at: usize, l: Link)
     ensures { bytes.new ≡ record_put at link_bytes (link_record l) bytes.old }
 {

@@ -1,5 +1,6 @@
 // The check of a network and its tree: refusals 8 and 9, and 1 to 9 with 14 in their order.
 #![tactic(auto)]
+
 ghost use Rattle.std.specs.Prelude.{◌≡◌, ◌<◌, ◌≤◌};
 ghost use Rattle.edition.specs.Limits.{node_limit};
 ghost use Rattle.rows.specs.First.{first_to};
@@ -37,6 +38,7 @@ pub fn keeps_short(p: u64, q: u64, w: u16) -> bool
 }
 
 // Whether the link is in service and breaks shortness, by a row of distances.
+#[tactic(auto, unfolding(crate::specs::Work::breaks_by))]
 fn breaks_by(row: &[u64], l: Link) -> bool
     ensures { result ≡ breaks_by row.now l }
 {
@@ -78,6 +80,7 @@ fn check_tree(links: &[u16], parents: &[u16], search: Search) -> Verdict
 }
 
 // Refusals 1 to 4, 14, 5 to 7, in this order.
+#[tactic(auto, unfolding(crate::specs::Surveyed::plain_verdict, rows::specs::First::firstly, network::specs::Network::net_of))]
 fn check_plain(links: &[u16], parents: &[u16], search: Search) -> Verdict
     ensures { let g = net_of links.now parents.now search in
         result ≡ plain_verdict g }
@@ -115,6 +118,7 @@ fn verdict(links: &[u16], parents: &[u16], search: Search) -> Verdict
 }
 
 // The check of a network and its tree: sound, with its sizes, or the first refusal of 1 to 4, 14, 5 to 9.
+#[tactic(auto, unfolding(crate::specs::Sound::checked, network::specs::Network::net_of))]
 pub fn check_network(links: &[u16], parents: &[u16], search: Search) -> Checked
     ensures { let g = net_of links.now parents.now search in
         result ≡ checked g }
@@ -140,6 +144,7 @@ pub fn handed_up(said: Checked) -> Verdict
 }
 
 // Whether the link is in service and breaks shortness, by a survey.
+#[tactic(auto, unfolding(crate::specs::Work::breaks_in))]
 fn breaks_in(survey: &[u64], l: Link) -> bool
     requires { (l.first < nodes_in survey.now) × (l.second < nodes_in survey.now) }
     ensures { result ≡ breaks_in survey.now l }

@@ -1,6 +1,7 @@
 // What walks over the nodes tell of a tree: an order with every parent before its children, whether all nodes have a route, their
 // distances, and all that a search wants to know of each node, in O(n).
 #![tactic(auto)]
+
 ghost use Rattle.std.specs.Prelude.{◌≡◌, List, ◌++◌, ℕ, ◌+◌, ◌*◌, ◌^◌, ◌<◌, ◌≤◌, max, length, get_or};
 ghost use Rattle.edition.specs.Limits.{node_limit};
 ghost use Rattle.edition.specs.Refusals.{if_taken};
@@ -62,6 +63,7 @@ pub fn known_at(row: &[u64], x: usize) -> Known
 }
 
 // Writes what is known of node x.
+#[tactic(auto, unfolding(crate::specs::Row::known_row))]
 fn put_known(row: &mut [u64], x: usize, k: Known)
     requires { x < nodes_in row.old }
     ensures { row.new ≡ put_known row.old x k }
@@ -78,6 +80,7 @@ fn put_known(row: &mut [u64], x: usize, k: Known)
 
 // The nodes from u up to the first that has a seat, written into the row: how many they are. As many as there are nodes, where
 // u has no route.
+#[tactic(auto, unfolding(tree::specs::Tree::tree_of, network::specs::Network::net_of))]
 fn climb_free(
     links: &[u16],
     parents: &[u16],
@@ -139,6 +142,7 @@ fn begin(root: u16, order: &mut [u16], seats: &mut [u16])
 }
 
 // Each node gets a place, up to the first that has no route.
+#[tactic(auto, unfolding(tree::specs::Tree::tree_of, network::specs::Network::net_of))]
 fn place_all(
     links: &[u16],
     parents: &[u16],
@@ -170,6 +174,7 @@ fn place_all(
 
 // The nodes in an order in which the root comes first and each parent before its children, in the first n numbers of a row. Where
 // a node has no route: the lowest such node.
+#[tactic(auto, unfolding(tree::specs::Tree::tree_of, network::specs::Network::net_of))]
 fn in_order(links: &[u16], parents: &[u16], search: Search, order: &mut [u16]) -> Found
     requires { let g = net_of links.now parents.now search in
         Closed (tree_of g)
@@ -201,6 +206,7 @@ fn next_distance(links: &[u16], parents: &[u16], search: Search, row: &[u64], v:
 }
 
 // Writes d(u) of every node, in that order.
+#[tactic(auto, unfolding(tree::specs::Tree::tree_of, network::specs::Network::net_of))]
 fn fill_distances(links: &[u16], parents: &[u16], search: Search, order: &[u16], row: &mut [u64])
     requires { let g = net_of links.now parents.now search in
         Order (tree_of g) order.now
@@ -218,6 +224,7 @@ fn fill_distances(links: &[u16], parents: &[u16], search: Search, order: &[u16],
 }
 
 // Refusal 8, or d(u) of every node.
+#[tactic(auto, unfolding(tree::specs::Tree::tree_of, network::specs::Network::net_of))]
 fn walk(links: &[u16], parents: &[u16], search: Search, row: &mut [u64]) -> Verdict
     requires { let g = net_of links.now parents.now search in
         Closed (tree_of g)
@@ -237,6 +244,7 @@ fn walk(links: &[u16], parents: &[u16], search: Search, row: &mut [u64]) -> Verd
 }
 
 // The lowest node whose parent is no node.
+#[tactic(auto, unfolding(crate::specs::Survey::strays, tree::specs::Tree::tree_of, network::specs::Network::net_of))]
 fn first_stray(links: &[u16], parents: &[u16], search: Search) -> Found
     ensures { let g = net_of links.now parents.now search in
         result ≡ first_to (strays (tree_of g)) (length parents.now) }
@@ -252,6 +260,7 @@ fn first_stray(links: &[u16], parents: &[u16], search: Search) -> Found
 }
 
 // What a walk needs: refusals 1 and 10, 3, and 7 where a node's parent is no node.
+#[tactic(auto, unfolding(crate::specs::Survey::closed_verdict, rows::specs::First::firstly, network::specs::Network::net_of, rows::specs::First::refuse_at))]
 fn check_closed(links: &[u16], parents: &[u16], search: Search, room: usize) -> Verdict
     ensures { let g = net_of links.now parents.now search in
         result ≡ closed_verdict g room }
@@ -268,6 +277,7 @@ fn check_closed(links: &[u16], parents: &[u16], search: Search, room: usize) -> 
 }
 
 // d(u) of every node, into a lent row of at least n numbers, in O(n). Refusals 1, 10, 3, 7 where a node's parent is no node, and 8.
+#[tactic(auto, unfolding(network::specs::Network::net_of))]
 pub fn distances(links: &[u16], parents: &[u16], search: Search, row: &mut [u64]) -> Verdict
     ensures { let g = net_of links.now parents.now search in
         (result ≡ survey_verdict g row.old)
@@ -315,6 +325,7 @@ fn begun_at(links: &[u16], parents: &[u16], search: Search, row: &[u64], v: usiz
 }
 
 // Parents first: every node's own record.
+#[tactic(auto, unfolding(tree::specs::Tree::tree_of, network::specs::Network::net_of))]
 fn walk_down(links: &[u16], parents: &[u16], search: Search, order: &[u16], row: &mut [u64])
     requires { let g = net_of links.now parents.now search in
         Order (tree_of g) order.now
@@ -409,6 +420,7 @@ fn walk_up(order: &[u16], n: usize, row: &mut [u64])
 }
 
 // A record with another number of what is beside.
+#[tactic(auto, unfolding(crate::specs::Work::with_aside))]
 fn with_aside(v: Known, d: u64) -> Known
     ensures { result ≡ with_aside v d }
 {
@@ -472,6 +484,7 @@ fn twice(a: u64, b: u64) -> u64
 }
 
 // A node's record with the two numbers by which a sum is known.
+#[tactic(auto, unfolding(crate::specs::Work::turned))]
 fn with_turn(v: Known, p: Known) -> Known
     requires { Turns v p }
     ensures { result ≡ with_turn v p }
@@ -519,6 +532,7 @@ fn walk_turns(order: &[u16], n: usize, row: &mut [u64])
 }
 
 // Writes what is known of every node, in that order.
+#[tactic(auto, unfolding(tree::specs::Tree::tree_of, network::specs::Network::net_of))]
 fn write_known(links: &[u16], parents: &[u16], search: Search, order: &[u16], row: &mut [u64])
     requires { let g = net_of links.now parents.now search in
         Order (tree_of g) order.now
@@ -534,6 +548,7 @@ fn write_known(links: &[u16], parents: &[u16], search: Search, order: &[u16], ro
 }
 
 // Refusal 8, or what is known of every node.
+#[tactic(auto, unfolding(tree::specs::Tree::tree_of, network::specs::Network::net_of))]
 fn know_all(links: &[u16], parents: &[u16], search: Search, row: &mut [u64]) -> Verdict
     requires { let g = net_of links.now parents.now search in
         Closed (tree_of g)
@@ -555,6 +570,7 @@ fn know_all(links: &[u16], parents: &[u16], search: Search, row: &mut [u64]) -> 
 
 // What is known of every node, into a lent row of a record a node, in O(n). Refusals 1, 10, 3, 7 where a node's parent is no node,
 // and 8.
+#[tactic(auto, unfolding(network::specs::Network::net_of))]
 pub fn fill(links: &[u16], parents: &[u16], search: Search, row: &mut [u64]) -> Verdict
     ensures { let g = net_of links.now parents.now search in
         (result ≡ surveyed_verdict g row.old)

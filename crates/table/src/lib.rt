@@ -141,6 +141,7 @@ impl Side {
 
 // What is offered to the node where the climb is, of a link with these costs. A value of its own, so that the loop which climbs need
 // not keep the whole climb in memory.
+#[tactic(auto, unfolding(crate::specs::Work::bid_of))]
 fn bid_of(side: Side, c: Costs) -> Bid
     ensures { result ≡ bid_of side c }
 {
@@ -172,6 +173,7 @@ fn costs_of(survey: &[u64], side: Side, k: u64) -> Costs
 }
 
 // Whether so many hops are within the depth asked.
+#[tactic(auto, unfolding(crate::specs::Work::within_by))]
 fn is_within(depth: u16, hops: usize) -> bool
     ensures { result ≡ within_by depth hops }
 {
@@ -183,6 +185,7 @@ fn is_within(depth: u16, hops: usize) -> bool
 
 // The better of a standing swap link, where there is one yet, and a later candidate. `tied` is what the standing one costs by incr where
 // that decides, and 0 elsewhere.
+#[tactic(auto, unfolding(crate::specs::Prefix::kept))]
 fn keep(had: bool, tied: u64, old: Swap, new: Offer) -> Swap
     ensures { result ≡ kept had tied old new }
 {
@@ -204,6 +207,7 @@ fn keep(had: bool, tied: u64, old: Swap, new: Offer) -> Swap
 }
 
 // The entry with one more link that crosses within the depth.
+#[tactic(auto, unfolding(crate::specs::Prefix::offered))]
 fn with_candidate(old: Entry, standing: Standing, e: u64, lower: u64, c: Costs) -> Entry
     ensures { result ≡ offered old standing true e lower c }
 {
@@ -238,6 +242,7 @@ fn with_candidate(old: Entry, standing: Standing, e: u64, lower: u64, c: Costs) 
 }
 
 // The entry with one more link that crosses too deep.
+#[tactic(auto, unfolding(crate::specs::Prefix::offered))]
 fn with_crossing(old: Entry, standing: Standing, e: u64, lower: u64, c: Costs) -> Entry
     ensures { result ≡ offered old standing false e lower c }
 {
@@ -286,6 +291,7 @@ fn no_better(old: Entry, c: Costs) -> bool
 
 // Whether a swap link stays before a candidate of no lower cost, whatever that costs by incr: the costs differ, or it is the swap link
 // under incr.
+#[tactic(auto, unfolding(crate::specs::Prefix::settled))]
 fn is_settled(s: Swap, least: Swap, cost: u64) -> bool
     ensures { result ≡ settled s least cost }
 {
@@ -296,6 +302,7 @@ fn is_settled(s: Swap, least: Swap, cost: u64) -> bool
 }
 
 // Whether this holds under sum and under max.
+#[tactic(auto, unfolding(crate::specs::Prefix::all_settled))]
 fn all_settled(old: Entry, c: Costs) -> bool
     ensures { result ≡ all_settled old c }
 {
@@ -336,6 +343,7 @@ fn incr_of(links: &[u16], survey: &[u64], x: usize, b: u64) -> u64
 }
 
 // What a swap link of node x costs it by incr, where that decides between it and a candidate of this cost; 0 elsewhere.
+#[tactic(auto, unfolding(crate::specs::Prefix::tied_by))]
 fn tied_incr(rule: u16, links: &[u16], survey: &[u64], x: usize, s: Swap, cost: u64) -> u64
     requires { (g : Net) × Starts g survey.now x × Reads g links.now }
     ensures { (g : Net)
@@ -353,6 +361,7 @@ fn tied_incr(rule: u16, links: &[u16], survey: &[u64], x: usize, s: Swap, cost: 
 }
 
 // So under sum and under max, of an entry and a candidate of these costs.
+#[tactic(auto, unfolding(crate::specs::Prefix::standing_by))]
 fn standing_of(rule: u16, links: &[u16], survey: &[u64], x: usize, old: Entry, c: Costs) -> Standing
     requires { (g : Net) × Starts g survey.now x × Reads g links.now }
     ensures { (g : Net)
@@ -725,6 +734,7 @@ pub fn refresh_surveyed(
 }
 
 // Whether a table can be worked out: refusals 1 to 4, 14, 5 to 9, then 10 where fewer entries are lent than there are nodes.
+#[tactic(auto, unfolding(crate::specs::Table::table_verdict, network::specs::Network::net_of))]
 pub fn check_table(links: &[u16], parents: &[u16], search: Search, entries: &[u64]) -> Verdict
     ensures { let g = net_of links.now parents.now search in
         result ≡ table_verdict g entries.now }
@@ -738,6 +748,7 @@ pub fn check_table(links: &[u16], parents: &[u16], search: Search, entries: &[u6
 
 // The same, and in a lent row the survey of the network, which stands there where 1 to 8 and 14 refuse nothing. Before all of these 10,
 // where that row holds fewer records than memory has nodes.
+#[tactic(auto, unfolding(network::specs::Network::net_of))]
 pub fn survey_table(
     links: &[u16],
     parents: &[u16],
@@ -757,6 +768,7 @@ pub fn survey_table(
 }
 
 // The entries of the nodes asked for afresh, all others unwritten. A node is asked for by a number that is not 0.
+#[tactic(auto, unfolding(network::specs::Network::net_of))]
 pub fn refresh(
     links: &[u16],
     parents: &[u16],
@@ -788,6 +800,7 @@ pub fn table(links: &[u16], parents: &[u16], search: Search, entries: &mut [u64]
 }
 
 // Whether a number has an entry: refusals 1 to 4, 14, 5 to 9, then 8 where it is no node.
+#[tactic(auto, unfolding(crate::specs::Table::entry_verdict, network::specs::Network::net_of))]
 pub fn check_entry(links: &[u16], parents: &[u16], search: Search, x: usize) -> Verdict
     ensures { let g = net_of links.now parents.now search in
         result ≡ entry_verdict g x }
@@ -937,6 +950,7 @@ pub fn entry_surveyed(
 }
 
 // The entry of node x.
+#[tactic(auto, unfolding(network::specs::Network::net_of))]
 pub fn entry_of(links: &[u16], parents: &[u16], search: Search, x: usize) -> EntryAnswer
     ensures { let g = net_of links.now parents.now search in
         result ≡ entry_answer g x }

@@ -1,6 +1,7 @@
 // Input as 16-bit words, the high byte first: a head of six words, as many parents and records of links as it says, and
 // whatever else a program reads.
 #![tactic(auto)]
+
 ghost use Rattle.std.specs.Prelude.{◌≡◌, length};
 ghost use Rattle.test_words.specs.Words.{word_in, words_in, head_in};
 
@@ -19,6 +20,7 @@ pub struct Head {
 }
 
 // Word i of the bytes; bytes past the end count as 0.
+#[tactic(auto, unfolding(crate::specs::Words::word_in))]
 pub fn word(bytes: &[u8], i: usize) -> u16
     ensures { result ≡ word_in bytes.now i }
 {
@@ -29,6 +31,7 @@ pub fn word(bytes: &[u8], i: usize) -> u16
 }
 
 // The head that the bytes begin with.
+#[tactic(auto, unfolding(crate::specs::Words::head_in))]
 pub fn head_of(bytes: &[u8]) -> Head
     ensures { result ≡ head_in bytes.now }
 {

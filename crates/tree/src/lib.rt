@@ -1,5 +1,6 @@
 // The tree that a network's parent links make: climbing, routes, distances, where routes meet.
 #![tactic(auto)]
+
 ghost use Rattle.std.specs.Prelude.{◌≡◌, ◌+◌, ◌<◌, ◌≤◌, true, length};
 ghost use Rattle.edition.specs.Limits.{node_limit};
 ghost use Rattle.rows.specs.Count.{row_with};
@@ -34,6 +35,7 @@ pub enum Answer {
 }
 
 // The parent of u; the root is its own.
+#[tactic(auto, unfolding(crate::specs::Tree::tree_of, network::specs::Network::net_of))]
 pub fn up(links: &[u16], parents: &[u16], search: Search, u: usize) -> usize
     ensures { let g = net_of links.now parents.now search in
         result ≡ (tree_of g).up u }
@@ -46,6 +48,7 @@ pub fn up(links: &[u16], parents: &[u16], search: Search, u: usize) -> usize
 }
 
 // The length of the link from u to its parent; 0 at the root.
+#[tactic(auto, unfolding(crate::specs::Tree::tree_of, network::specs::Network::net_of))]
 pub fn rise(links: &[u16], parents: &[u16], search: Search, u: usize) -> u16
     ensures { let g = net_of links.now parents.now search in
         result ≡ (tree_of g).rise u }
@@ -59,6 +62,7 @@ pub fn rise(links: &[u16], parents: &[u16], search: Search, u: usize) -> u16
 }
 
 impl Climb {
+    #[tactic(auto, unfolding(crate::specs::Answers::begun))]
     pub fn begin(u: usize) -> Climb
         ensures { result ≡ begun u }
     {
@@ -70,6 +74,7 @@ impl Climb {
     }
 
     // One step up.
+    #[tactic(auto, unfolding(crate::specs::Answers::stepped))]
     pub fn step(self, links: &[u16], parents: &[u16], search: Search) -> Climb
         ensures { let g = net_of links.now parents.now search in
             result ≡ stepped (tree_of g) self }
@@ -84,6 +89,7 @@ impl Climb {
 }
 
 // Whether u has a route to the root. It ends after as many steps as there are nodes.
+#[tactic(auto, unfolding(crate::specs::Tree::has_route, crate::specs::Tree::tree_of, network::specs::Network::net_of))]
 pub fn has_route(links: &[u16], parents: &[u16], search: Search, u: usize) -> bool
     ensures { let g = net_of links.now parents.now search in
         result ≡ has_route (tree_of g) u }
@@ -119,6 +125,7 @@ fn to_root(links: &[u16], parents: &[u16], search: Search, u: usize) -> Climb
 }
 
 // Refusals 1 and 10 of a row of one number a node.
+#[tactic(auto, unfolding(crate::specs::Answers::room_verdict, rows::specs::First::firstly))]
 pub fn check_row(n: usize, room: usize) -> Verdict
     ensures { result ≡ room_verdict n room }
 {
@@ -144,6 +151,7 @@ fn fill_distances(links: &[u16], parents: &[u16], search: Search, row: &mut [u64
 }
 
 // d(u) of every node, into a lent row of at least n numbers. Refusals 1 and 10.
+#[tactic(auto, unfolding(network::specs::Network::net_of))]
 pub fn distances(links: &[u16], parents: &[u16], search: Search, row: &mut [u64]) -> Verdict
     ensures { let g = net_of links.now parents.now search in
         (result ≡ row_verdict g row.old)
@@ -158,6 +166,7 @@ pub fn distances(links: &[u16], parents: &[u16], search: Search, row: &mut [u64]
 }
 
 // Whether u is no node, or has no route to the root.
+#[tactic(auto, unfolding(crate::specs::Answers::lost, network::specs::Network::net_of))]
 fn is_lost(links: &[u16], parents: &[u16], search: Search, u: usize) -> bool
     ensures { let g = net_of links.now parents.now search in
         result ≡ lost g u }
@@ -169,6 +178,7 @@ fn is_lost(links: &[u16], parents: &[u16], search: Search, u: usize) -> bool
 }
 
 // Refusals 1 and 8 of one node.
+#[tactic(auto, unfolding(crate::specs::Answers::way_verdict, rows::specs::First::firstly, network::specs::Network::net_of))]
 pub fn check_way(links: &[u16], parents: &[u16], search: Search, u: usize) -> Verdict
     ensures { let g = net_of links.now parents.now search in
         result ≡ way_verdict g u }
@@ -266,6 +276,7 @@ fn climb_to_meet(links: &[u16], parents: &[u16], search: Search, u: usize, z: us
 }
 
 // Refusals 1, and 8 of two nodes.
+#[tactic(auto, unfolding(crate::specs::Answers::ways_verdict, rows::specs::First::firstly))]
 fn check_ways(links: &[u16], parents: &[u16], search: Search, u: usize, z: usize) -> Verdict
     ensures { let g = net_of links.now parents.now search in
         result ≡ ways_verdict g u z }
