@@ -1,5 +1,6 @@
 // The table: all entries, some of them afresh, or one.
 #![tactic(auto)]
+
 ghost use Rattle.std.specs.Prelude.{◌≡◌, ℕ, ◌+◌, ◌*◌, ◌^◌, ◌<◌, ◌≤◌, max, true, false, List, ◌++◌, length, if◌then◌else◌, nat_eq, slice_index};
 ghost use Rattle.entries.specs.Row.{entries_in, put_entry, past_entries};
 ghost use Rattle.edition.specs.Entries.{blank, root_state, bridge_state, first_end, second_end};

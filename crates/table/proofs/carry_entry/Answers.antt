@@ -1,0 +1,12 @@
+-- `table::carry_entry` meets its contract. Assumes nothing.
+use Rattle.table.proofs.Carrying.{with_none, with_all}
+use Rattle.std.proofs.Common.{◌-◌, arith}
+use Rattle.table.proofs.carry_entry.Goals as goal
+
+pub loop-e-init : goal.loop-e-init
+loop-e-init c =
+    (with_none _ _ _ _ c.first_entry-it.ensures, omega arith)
+
+pub returns : goal.returns
+returns c =
+    with_all _ _ _ _ _ (omega (arith, c.loop-e-test.false, c.loop-e.invariant.1, c.links_in-m.ensures)) c.loop-e.invariant.0

@@ -1,0 +1,16 @@
+-- `table::check_entry` meets its contract. Assumes nothing.
+use Rattle.network.specs.Network.{net_of}
+use Rattle.sound.proofs.Handing.{handed-first}
+use Rattle.table.proofs.Single.{entry_judged}
+use Rattle.table.specs.Table.{entry_verdict}
+use Rattle.table.proofs.check_entry.Goals as goal
+
+pub returns-in_default : goal.returns-in_default
+unfolding entry_verdict
+returns-in_default c =
+    handed-first _ _ c.check_network-said.ensures _ c.in_default.is _ _ c.handed_up.ensures
+
+pub returns : goal.returns
+unfolding net_of
+returns c =
+    entry_judged _ _ _ _ c.check_network-said.ensures c.in-Sound.is _ c.refuse_if.ensures
