@@ -1,5 +1,6 @@
 // The file of a network and depth: which block holds which records, the writer and the reader.
 #![tactic(auto)]
+
 ghost use Rattle.std.specs.Prelude.{◌≡◌, ◌+◌, ◌*◌, ◌-◌, ◌<◌, ◌≤◌, min, ◌++◌, length, take, drop, replicate};
 ghost use Rattle.edition.specs.Limits.{node_limit, link_limit, entry_room};
 ghost use Rattle.edition.specs.Stored.{by_number, block_bytes, entry_bytes};
@@ -71,6 +72,7 @@ fn left_of(c: usize, from: usize) -> usize
 }
 
 // How many blocks hold c records, so many a block.
+#[tactic(auto, unfolding(crate::specs::Parts::blocks_for))]
 fn blocks_for(each: usize, c: usize) -> usize
     requires { (0 < each) × (each ≤ word_most) × (c ≤ word_most) }
     ensures { result ≡ blocks_for each c }
@@ -79,6 +81,7 @@ fn blocks_for(each: usize, c: usize) -> usize
 }
 
 // How many blocks a file of n nodes and m links has.
+#[tactic(auto, unfolding(crate::specs::Parts::block_count))]
 fn block_count(n: usize, m: usize) -> usize
     requires { (n ≤ word_most) × (m ≤ word_most) }
     ensures { result ≡ block_count n m }
@@ -100,6 +103,7 @@ fn part_of(kind: u8, each: usize, c: usize, j: usize) -> Part
 }
 
 // Block i of a file of n nodes and m links.
+#[tactic(auto, unfolding(crate::specs::Parts::part_at))]
 fn part_at(n: usize, m: usize, i: usize) -> Part
     requires { (n ≤ word_most) × (m ≤ word_most) × (i ≤ word_most) }
     ensures { result ≡ part_at n m i }
@@ -120,6 +124,7 @@ fn part_at(n: usize, m: usize, i: usize) -> Part
 }
 
 // Bytes a record of a kind.
+#[tactic(auto, unfolding(crate::specs::Work::held_bytes))]
 fn held_bytes(kind: u8) -> usize
     ensures { result ≡ held_bytes kind }
 {
@@ -250,6 +255,7 @@ fn write_blocks(links: &[u16], parents: &[u16], search: Search, entries: &[u64],
 }
 
 // Whether a file can be written: refusals 1 to 9, then 10 where fewer bytes are lent than the file needs.
+#[tactic(auto, unfolding(crate::specs::Writer::write_verdict))]
 pub fn check_write(links: &[u16], parents: &[u16], aim: Aim, file: &[u8]) -> Verdict
     ensures { let g = net_of links.now parents.now (by_number aim) in
         result ≡ write_verdict g file.now }
@@ -340,6 +346,7 @@ fn check_blocks(file: &[u8], n: usize, m: usize) -> Verdict
 }
 
 // What a file's header says.
+#[tactic(auto, unfolding(crate::specs::Reader::head_read, crate::specs::Reader::nodes_read, crate::specs::Reader::links_read, crate::specs::Reader::search_read))]
 fn header_of(file: &[u8]) -> Header
     ensures { result ≡ head_read file.now }
 {
@@ -355,6 +362,7 @@ fn header_of(file: &[u8]) -> Header
 }
 
 // Whether a file is empty or not a multiple of 512 bytes.
+#[tactic(auto, unfolding(crate::specs::Reader::bad_file_length))]
 fn is_unequal(file: &[u8]) -> bool
     ensures { result ≡ bad_file_length file.now }
 {
@@ -381,6 +389,7 @@ fn check_head(file: &[u8]) -> Verdict
 }
 
 // Where the record of link e stands in a file.
+#[tactic(auto, unfolding(crate::specs::Parts::link_place))]
 fn link_place(e: usize) -> usize
     requires { e ≤ word_most }
     ensures { result ≡ link_place e }
@@ -391,6 +400,7 @@ fn link_place(e: usize) -> usize
 }
 
 // Where the entry of x stands in a file of m links.
+#[tactic(auto, unfolding(crate::specs::Parts::entry_place))]
 fn entry_place(m: usize, x: usize) -> usize
     requires { (m ≤ word_most) × (x ≤ word_most) }
     ensures { result ≡ entry_place m x }
@@ -534,6 +544,7 @@ fn check_records(file: &[u8], head: Header, short: bool, worked: &mut [u64]) -> 
 }
 
 // Whether a lent row is too short for what a file holds.
+#[tactic(auto, unfolding(crate::specs::Reader::too_short))]
 fn is_too_short(head: Header, links: &[u16], parents: &[u16], entries: &[u64]) -> bool
     ensures { let rows : Rows = record { links = links.entry.now; parents = parents.now; entries = entries.now } in
         result ≡ too_short head.nodes head.links rows }

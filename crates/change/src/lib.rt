@@ -1,5 +1,6 @@
 // The change of one link outside the tree: its verdict, its application, and one after the other.
 #![tactic(auto)]
+
 ghost use Rattle.std.specs.Prelude.{◌≡◌, List, ℕ, ◌<◌, ◌≤◌, length};
 ghost use Rattle.edition.specs.declared.Search.{Search};
 ghost use Rattle.edition.specs.Limits.{node_limit};
@@ -81,6 +82,7 @@ pub fn check_change(
 }
 
 // The other of 0 and 1.
+#[tactic(auto, unfolding(crate::specs::Work::flip))]
 fn other_mark(mark: u64) -> u64
     ensures { result ≡ flip mark }
 {
@@ -114,6 +116,7 @@ fn flip_up(links: &[u16], parents: &[u16], search: Search, asked: &mut [u64], u:
 }
 
 // Stores a length and a service mark in the record of link e, whose other numbers stay.
+#[tactic(auto, unfolding(crate::specs::Change::set_link))]
 fn set_link(links: &mut [u16], e: usize, length: u16, mark: u16)
     ensures { links.new ≡ set_link links.old (record { link = e; mark = mark; length = length }) }
 {

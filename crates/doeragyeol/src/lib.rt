@@ -64,6 +64,7 @@ fn place_part(place: usize) -> u32
 }
 
 // The word of a refusal.
+#[tactic(auto, unfolding(crate::specs::Word::word_of))]
 fn refusal_word(refusal: Refusal) -> u32
     ensures { result ≡ word_of (Refused refusal) }
 {
@@ -83,6 +84,7 @@ fn no_room_word() -> u32
 }
 
 // The word of a verdict.
+#[tactic(auto, unfolding(crate::specs::Word::word_of))]
 fn word(said: Verdict) -> u32
     ensures { result ≡ word_of said }
 {

@@ -1,5 +1,6 @@
 // The forwarder of a branch router: the nodes over which a start is led to the root while the tree link of a node is down.
 #![tactic(auto)]
+
 ghost use Rattle.std.specs.Prelude.{◌≡◌, ◌||◌, eqb, leb, ltb, [], ◌∷◌, ◌++◌, reverse, ◌+◌, ◌<◌, ◌≤◌, length};
 ghost use Rattle.std.proofs.lemmas.List.Edits.{sets};
 ghost use Rattle.edition.specs.Limits.{route_room};
@@ -65,6 +66,7 @@ fn has_no_link(n: usize, root: usize, x: usize) -> bool
 }
 
 // Refusals 10, 15 and 16, of two rows of so many numbers.
+#[tactic(auto, unfolding(crate::specs::Answers::ask_verdict, rows::specs::First::firstly))]
 pub fn check_ask(n: usize, root: u16, ask: Ask, ordinary: usize, detour: usize) -> Verdict
     ensures { result ≡ ask_verdict n root ask ordinary detour }
 {
@@ -220,6 +222,7 @@ fn write_around(
 }
 
 // What three climbs and a link add up to: up to the failed node, from below it down, across, and on to the root.
+#[tactic(auto, unfolding(crate::specs::Work::added))]
 fn add_up(up: Climb, down: Climb, rest: Climb, length: u16) -> Way
     requires { Small up down rest }
     ensures { result ≡ added up down rest length }
@@ -259,6 +262,7 @@ fn list_around(
 }
 
 // The way over a swap link, by the mark of its lower end.
+#[tactic(auto, unfolding(crate::specs::Work::over_by))]
 fn over_link(links: &[u16], swap: Swap) -> Over
     ensures { result ≡ over_by (link_in links.now swap.link) swap.lower }
 {
@@ -400,6 +404,7 @@ pub fn place_of(it: Applies) -> usize
 
 // The used part of the row that applies, and apart from it the number and the place of a refusal, 0 and 0 where there is none. What the
 // two rows then hold is promised by `fill`, which writes them: while a part of a row is out, nothing can be said of that row.
+#[tactic(auto, unfolding(crate::specs::Answers::handed))]
 pub fn forward<'a>(
     links: &[u16],
     parents: &[u16],

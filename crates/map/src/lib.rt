@@ -1,5 +1,6 @@
 // The unprotected map: the nodes in states 2 and 3 as bits, worked out from network and depth and never from a lent table.
 #![tactic(auto)]
+
 ghost use Rattle.std.specs.Prelude.{◌≡◌, ◌+◌, ◌*◌, ◌<◌, ◌≤◌, length};
 ghost use Rattle.edition.specs.Limits.{map_words};
 ghost use Rattle.rows.specs.Count.{only_if};
@@ -25,6 +26,7 @@ pub enum MapAnswer {
 }
 
 // Whether x, of n nodes, is in state 2 or 3 by a row of entries.
+#[tactic(auto, unfolding(crate::specs::Work::open_by))]
 fn is_open(entries: &[u64], n: usize, x: usize) -> bool
     ensures { result ≡ open_by entries.now n x }
 {
@@ -39,6 +41,7 @@ fn is_open(entries: &[u64], n: usize, x: usize) -> bool
 }
 
 // The bit of x.
+#[tactic(auto, unfolding(rows::specs::Count::only_if))]
 fn bit_of(entries: &[u64], n: usize, x: usize) -> u64
     ensures { result ≡ only_if (open_by entries.now n x) 1 }
 {
@@ -46,6 +49,7 @@ fn bit_of(entries: &[u64], n: usize, x: usize) -> u64
 }
 
 // Word i of the map, from its highest bit down.
+#[tactic(auto, unfolding(crate::specs::Work::word_by))]
 fn word_of(entries: &[u64], n: usize, i: usize) -> u64
     requires { i < map_words }
     ensures { result ≡ word_by (open_by entries.now n) i }
@@ -60,6 +64,7 @@ fn word_of(entries: &[u64], n: usize, i: usize) -> u64
 }
 
 // The words of the map, at the beginning of a row.
+#[tactic(auto, unfolding(crate::specs::Work::words_by))]
 fn fill_words(entries: &[u64], n: usize, words: &mut [u64])
     requires { map_words ≤ length words.old }
     ensures { words.new ≡ words_by (open_by entries.now n) words.old }
@@ -86,6 +91,7 @@ fn count_of(words: &[u64]) -> u32
 }
 
 // The first word that is not 0.
+#[tactic(auto, unfolding(crate::specs::Work::some_in))]
 fn first_word(words: &[u64]) -> Found
     ensures { result ≡ first_to (some_in words.now) map_words }
 {
@@ -99,6 +105,7 @@ fn first_word(words: &[u64]) -> Found
 }
 
 // The lowest one of the words, 65,535 where there is none.
+#[tactic(auto, unfolding(crate::specs::Work::lowest_in, crate::specs::Work::lowest_at))]
 fn lowest_of(words: &[u64]) -> u16
     ensures { result ≡ lowest_in words.now }
 {
@@ -130,6 +137,7 @@ fn map_of(entries: &[u64], n: usize, words: &mut [u64]) -> MapAnswer
 
 // The unprotected map into a lent row: its eight words, their ones and the lowest of them. Nothing is written on a refusal, nor
 // past the words.
+#[tactic(auto, unfolding(network::specs::Network::net_of))]
 pub fn unprotected_map(
     links: &[u16],
     parents: &[u16],
