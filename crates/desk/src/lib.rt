@@ -308,6 +308,14 @@ fn read_on<F: Read>(file: &mut F, room: &mut [u8]) -> Result<usize> {
     Ok(done)
 }
 
+// Room for the longest text and one byte more, by which a longer one is seen. The `ensures` gives only the length, which is what
+// lending the room as a slice needs.
+pub fn text_room() -> [u8; Desk::TEXT + 1]
+    ensures { length result ≡ longest_text + 1 }
+{
+    [0; Desk::TEXT + 1]
+}
+
 // Opens the file and reads it, or as much of it as the room holds.
 fn read_all<R: Files>(rt: &R, name: &[u8], room: &mut [u8]) -> Result<usize> {
     let mut file = open(rt, name)?;

@@ -376,7 +376,7 @@ fn take_bytes<R: Files + Print + Alloc>(
 
 // Makes the file `to` of the text in the file `from`.
 fn run<R: Files + Print + Alloc>(rt: &R, from: &[u8], to: &[u8]) -> bool {
-    let mut row = [0u8; Desk::TEXT + 1];
+    let mut row = desk::text_room();
     match desk::read(rt, from, &mut row) {
         Got::Is(size) => take_bytes(rt, from, to, &row, size),
         Got::Not => false,

@@ -310,7 +310,7 @@ fn with_text<R: Files + Print + Alloc>(
     file: &[u8],
     size: usize,
 ) -> bool {
-    let mut text = [0u8; Desk::TEXT + 1];
+    let mut text = desk::text_room();
     match desk::read(rt, by, &mut text) {
         Got::Is(long) => correct_bytes(rt, from, by, to, file, size, &text, long),
         Got::Not => false,
