@@ -1,5 +1,5 @@
 -- Two outcomes that a promise allows are equal: one theorem a public function, in the words of its contract. Assumes nothing.
-use Rattle.std.proofs.Common.{ℕ, ◌+◌, List, ◌++◌, length}
+use Rattle.std.proofs.Common.{ℕ, List, ◌++◌, length}
 use Rattle.edition.specs.declared.Search.{Search}
 use Rattle.entries.specs.Row.{past_entries}
 use Rattle.network.specs.Network.{net_of}

@@ -1,9 +1,7 @@
 -- `table::climb_link` meets its contract. Assumes nothing.
-use Rattle.table.proofs.Linking.{first_less, second_less, between_more, between_end, Went, went_on, went_still, Turn, between_start, between_turn, node-ranked, first_next, offering, stepping}
+use Rattle.table.proofs.Linking.{first_less, second_less, between_more, between_end, Went, went_on, went_still, between_start, between_turn, node-ranked, first_next, offering, stepping}
 use Rattle.table.proofs.Offering.{bidding}
-use Rattle.std.proofs.Common.{ℕ, List, sym, ⊎_elim, arith}
-use Rattle.table.specs.Work.{Climbing}
-use Rattle.network.specs.Network.{Net}
+use Rattle.std.proofs.Common.{sym, arith}
 use Rattle.table.proofs.climb_link.Goals as goal
 use Rattle.table.proofs.climb_link.Goals.{then-is_worth, else-is_worth, then-is_worth-2, else-is_worth-2}
 
