@@ -188,6 +188,6 @@ module _ (file : List ℕ) (bytes : (i : ℕ) → get_or file i 0 < 256) where
 -- two files of bytes that are taken, with one network, are one file
 pub one_file :
     (a b : List ℕ)
-    → ((i : ℕ) → get_or a i 0 < 256) → ((i : ℕ) → get_or b i 0 < 256) → (rowsA rowsB : Rows) → read_verdict a rowsA ≡ Taken
-    → read_verdict b rowsB ≡ Taken → net_read a ≡ net_read b → a ≡ b
-one_file a b x y rowsA rowsB p q e = accepted_is_written a x rowsA p ∙ ap file_of e ∙ sym (accepted_is_written b y rowsB q)
+    → ((i : ℕ) → get_or a i 0 < 256) → ((i : ℕ) → get_or b i 0 < 256) → (rows_a rows_b : Rows) → read_verdict a rows_a ≡ Taken
+    → read_verdict b rows_b ≡ Taken → net_read a ≡ net_read b → a ≡ b
+one_file a b x y rows_a rows_b p q e = accepted_is_written a x rows_a p ∙ ap file_of e ∙ sym (accepted_is_written b y rows_b q)

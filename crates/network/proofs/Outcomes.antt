@@ -6,7 +6,7 @@ use Rattle.edition.specs.Limits.{no_link, link_limit, link_width}
 use Rattle.edition.specs.declared.Limits.{Limits}
 use Rattle.edition.specs.declared.Search.{Search}
 use Rattle.edition.specs.declared.Why.TheVariants.{NodeCount, LinkCount, BadRoot, BadDepth, BadRule, BadEnds, BadMark, BadParent}
-use Rattle.network.specs.Network.{links_in, link_in, put_link, front_links, past_links, net_of, is_parent, in_service, touches as touchesIt, other_end}
+use Rattle.network.specs.Network.{links_in, link_in, put_link, front_links, past_links, net_of, is_parent, in_service, touches, other_end}
 use Rattle.network.specs.Records.{bad_nodes, bad_links, bad_root, bad_depth, bad_rule, size_verdict, bad_ends, bad_mark, bad_parent}
 use Rattle.network.specs.declared.Link.{Link}
 use Rattle.rows.specs.First.{refuse_if, refuse_at}
@@ -53,7 +53,7 @@ pub one_in_service : (l : Link) → One (in_service l)
 one_in_service l = one _
 
 -- `network::touches`
-pub one-touches : (l : Link) (u : ℕ) → One (touchesIt l u)
+pub one-touches : (l : Link) (u : ℕ) → One (touches l u)
 one-touches l u = one _
 
 -- `network::other_end`
