@@ -22,7 +22,7 @@ fn nearer(root: u16, depth: u16) -> Search {
 
 // Two numbers as one.
 fn both(a: u64, b: u64) -> u64 {
-    std::num::wrapping_add_u64(a, b)
+    a.wrapping_add(b)
 }
 
 // A refusal as a number.
