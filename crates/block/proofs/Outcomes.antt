@@ -11,11 +11,11 @@ pub one_check_block : (kind number used : ℕ) (b : List ℕ) → One (block_ver
 one_check_block kind number used b = one _
 
 -- `block::payload`
-pub one-payload :
+pub one_payload :
     (kind number used : ℕ) (b : List ℕ) (start : ℕ) →
     One (payload kind number used b)
     × One (payload_place kind number used b + start)
-one-payload kind number used b start = (one _, one _)
+one_payload kind number used b start = (one _, one _)
 
 -- `block::seal`
 pub one_seal : (kind number used : ℕ) (b : List ℕ) → One (sealed kind number used b)

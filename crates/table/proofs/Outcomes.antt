@@ -57,15 +57,15 @@ pub one_check_entry :
 one_check_entry links parents search x = one _
 
 -- `table::entry_surveyed`
-pub one-entry-surveyed :
+pub one_entry_surveyed :
     (links parents : List ℕ) (search : Search) (survey : List ℕ) (x : ℕ) →
     let g = net_of links parents search in
     One (entry g x)
-one-entry-surveyed links parents search survey x = one _
+one_entry_surveyed links parents search survey x = one _
 
 -- `table::entry_of`
-pub one-entry_of :
+pub one_entry_of :
     (links parents : List ℕ) (search : Search) (x : ℕ) →
     let g = net_of links parents search in
     One (entry_answer g x)
-one-entry_of links parents search x = one _
+one_entry_of links parents search x = one _
