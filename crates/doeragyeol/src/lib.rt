@@ -1,6 +1,7 @@
 // The library for C: ten functions over numbers and lent rows, each of which answers one word, 0 or the refusal; and the
 // version.
 #![tactic(auto)]
+
 ghost use Rattle.std.specs.Prelude.{◌≡◌, [], ◌∷◌, ◌≤◌, min, length};
 ghost use Rattle.edition.specs.declared.Verdict.TheVariants.{Refused};
 ghost use Rattle.edition.specs.declared.Why.TheVariants.{NoRoom};

@@ -11,7 +11,7 @@ use Rattle.edition.specs.declared.Verdict.TheVariants.{Taken}
 use Rattle.edition.specs.declared.Why.TheVariants.{NodeCount, LinkCount, BadDepth}
 use Rattle.edition.specs.Limits.{whole_search}
 use Rattle.edition.proofs.Within.{Within}
-use Rattle.rows.proofs.Refusing.{head_taken, rest-taken, if_taken_lem, if_passes, both_taken, none_left}
+use Rattle.rows.proofs.Refusing.{head_taken, rest-taken, if_taken_lem, if_passes, both_taken}
 use Rattle.rows.proofs.Tests.{or_false, and_none}
 use Rattle.network.specs.Records.{bad_nodes, bad_links, bad_depth, size_verdict}
 

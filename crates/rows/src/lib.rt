@@ -1,5 +1,6 @@
 // Numbers in lent rows: total reads, and what a search found as a verdict.
 #![tactic(auto)]
+
 ghost use Rattle.std.specs.Prelude.{◌≡◌, get_or, take};
 ghost use Rattle.rows.specs.First.{or_here, refuse_if, refused_at};
 

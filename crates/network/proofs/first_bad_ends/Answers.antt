@@ -1,7 +1,6 @@
 -- `network::first_bad_ends` meets its contract. Assumes nothing.
 use Rattle.rows.proofs.Seeking.{seek_start, seek_past, seek_here}
 use mathlib.Core.Path.{◌∙◌, ap}
-use Prim.Native.Nat.{◌-◌}
 use Rattle.network.specs.Records.{bad_ends}
 use Rattle.network.proofs.first_bad_ends.Goals as goal
 

@@ -1,7 +1,5 @@
 -- `network::first_bad_parent` meets its contract. Assumes nothing.
 use Rattle.rows.proofs.Seeking.{seek_start, seek_more}
-use Prim.Native.Nat.{◌-◌}
-use Rattle.network.specs.Records.{bad_parent}
 use Rattle.network.proofs.first_bad_parent.Goals as goal
 
 pub loop-u-init : goal.loop-u-init

@@ -1,5 +1,4 @@
 -- `network::is_parent` meets its contract. Assumes nothing.
-use Prim.Native.Nat.{◌-◌}
 use Rattle.network.proofs.Naming.{named, unnamed_end}
 use Rattle.network.proofs.is_parent.Goals as goal
 
