@@ -1,8 +1,8 @@
 //! Safe calls of the proved library: slices for its rows, a `Result` for its word. A slice is what the library asks of a
 //! row: not null, aligned, and as long as it says; and a `&mut` one overlaps no other.
 //!
-//! The library is found by `-L`: `RUSTFLAGS="-L native=DIRECTORY" cargo build`, where `rt staticlib doeragyeol` wrote
-//! `libdoeragyeol.a` to the directory `target/staticlib`.
+//! The library is found by `-L`: `RUSTFLAGS="-L native=DIRECTORY" cargo build`, where `tools/built doeragyeol` says
+//! that `libdoeragyeol.a` stands.
 
 pub mod program;
 pub mod raw;
