@@ -2,6 +2,7 @@
 // answers is mixed into one number, so that no part of it is left out. The functions promise no more than that they do nothing
 // undefined and end.
 #![tactic(auto)]
+
 use archive::{Header, ReadAnswer, WriteAnswer};
 use edition::{Aim, Change, Edition, Entry, Measure, Memory, Refusal, Search, Swap, Verdict};
 use forward::{Applies, Ask};
