@@ -11,7 +11,7 @@ use lib.Seq.{take_all, get_or-take, get_or-drop}
 use borrow.Author.Tests.{eqb-true, eqb-false, not-false, ltb-true, ltb-false, leb-false}
 use Rattle.edition.specs.declared.Verdict.TheVariants.{Taken}
 use Rattle.edition.specs.declared.Why.TheVariants.{BadLength, BadEntry}
-use Rattle.edition.specs.Stored.{block_bytes, front_bytes, header_kind, links_kind, table_kind, link_bytes, entry_bytes, headers_aBlock, links_aBlock, entries_aBlock}
+use Rattle.edition.specs.Stored.{block_bytes, front_bytes, header_kind, links_kind, table_kind, link_bytes, entry_bytes, headers_a_block, links_a_block, entries_a_block}
 use Rattle.rows.specs.Count.{rows_to}
 use Rattle.rows.proofs.Records.{rows_cong}
 use Rattle.rows.proofs.Refusing.{head_taken, rest-taken, if_taken_lem, at_taken, to_taken}
@@ -28,14 +28,14 @@ use Rattle.archive.proofs.Pieces.{pieces, record_part}
 use Rattle.archive.proofs.Reading.{nodes_read_lem, links_read_lem, link_back, header_back}
 
 -- where a record stands, by its block and its place there
-link-place : (i r : ℕ) → 0 < i → r < links_aBlock → link_place ((i - 1) * links_aBlock + r) ≡ i * block_bytes + front_bytes + r * link_bytes
+link-place : (i r : ℕ) → 0 < i → r < links_a_block → link_place ((i - 1) * links_a_block + r) ≡ i * block_bytes + front_bytes + r * link_bytes
 unfolding link_place
 link-place i r s l = omega arith
 
 entry_place_lem :
     (m i r : ℕ)
-    → link_blocks m < i → r < entries_aBlock
-    → entry_place m ((i - 1 - link_blocks m) * entries_aBlock + r) ≡ i * block_bytes + front_bytes + r * entry_bytes
+    → link_blocks m < i → r < entries_a_block
+    → entry_place m ((i - 1 - link_blocks m) * entries_a_block + r) ≡ i * block_bytes + front_bytes + r * entry_bytes
 unfolding entry_place
 entry_place_lem m i r s l = omega arith
 
@@ -125,7 +125,7 @@ module _ (file : List ℕ) (bytes : (i : ℕ) → get_or file i 0 < 256) where
     header_same e =
         let z : i ≡ 0 = eqb-true i 0 e in
         rw e
-        (block_records header_kind i headers_aBlock (λ r. record_of (net_read file) header_kind (0 * headers_aBlock + r)) (rw e at taken)
+        (block_records header_kind i headers_a_block (λ r. record_of (net_read file) header_kind (0 * headers_a_block + r)) (rw e at taken)
         (λ r l.
         let at : front_bytes ≡ i * block_bytes + front_bytes + r * 8 = omega (arith, z, l) in
         header_back file bytes (omega (arith, inside)) ∙ ap (λ (k : ℕ). take 8 (drop k file)) at))
@@ -135,22 +135,22 @@ module _ (file : List ℕ) (bytes : (i : ℕ) → get_or file i 0 < 256) where
     links-same e f =
         let some : 0 < i = omega (arith, eqb-false i 0 e) in
         rw (e, f)
-        (block_records links_kind i (min links_aBlock (m - (i - 1) * links_aBlock))
-        (λ r. record_of (net_read file) links_kind ((i - 1) * links_aBlock + r)) (rw (e, f) at taken)
+        (block_records links_kind i (min links_a_block (m - (i - 1) * links_a_block))
+        (λ r. record_of (net_read file) links_kind ((i - 1) * links_a_block + r)) (rw (e, f) at taken)
         (λ r l.
         let at = link-place i r some (omega arith) in
-        link_back file bytes ((i - 1) * links_aBlock + r) (omega arith) (omega (arith, inside)) ∙ ap (λ (k : ℕ). take link_bytes (drop k file)) at))
+        link_back file bytes ((i - 1) * links_a_block + r) (omega arith) (omega (arith, inside)) ∙ ap (λ (k : ℕ). take link_bytes (drop k file)) at))
 
     entries-same : eqb i 0 ≡ false → leb i (link_blocks m) ≡ false → Same
     unfolding Same part_at part_of record_of record_bytes
     entries-same e f =
         let past : link_blocks m < i = omega (arith, leb-false i (link_blocks m) f) in
         rw (e, f)
-        (block_records table_kind i (min entries_aBlock (n - (i - 1 - link_blocks m) * entries_aBlock))
-        (λ r. record_of (net_read file) table_kind ((i - 1 - link_blocks m) * entries_aBlock + r)) (rw (e, f) at taken)
+        (block_records table_kind i (min entries_a_block (n - (i - 1 - link_blocks m) * entries_a_block))
+        (λ r. record_of (net_read file) table_kind ((i - 1 - link_blocks m) * entries_a_block + r)) (rw (e, f) at taken)
         (λ r l.
         let at = entry_place_lem m i r past (omega arith) in
-        sym (w.fresh ((i - 1 - link_blocks m) * entries_aBlock + r) (omega arith)) ∙ ap (λ (k : ℕ). take entry_bytes (drop k file)) at))
+        sym (w.fresh ((i - 1 - link_blocks m) * entries_a_block + r) (omega arith)) ∙ ap (λ (k : ℕ). take entry_bytes (drop k file)) at))
 
     block_same : block_at file i ≡ block_of (net_read file) i
     unfolding block_of Same
@@ -188,6 +188,6 @@ module _ (file : List ℕ) (bytes : (i : ℕ) → get_or file i 0 < 256) where
 -- two files of bytes that are taken, with one network, are one file
 pub one_file :
     (a b : List ℕ)
-    → ((i : ℕ) → get_or a i 0 < 256) → ((i : ℕ) → get_or b i 0 < 256) → (rowsA rowsB : Rows) → read_verdict a rowsA ≡ Taken
-    → read_verdict b rowsB ≡ Taken → net_read a ≡ net_read b → a ≡ b
-one_file a b x y rowsA rowsB p q e = accepted_is_written a x rowsA p ∙ ap file_of e ∙ sym (accepted_is_written b y rowsB q)
+    → ((i : ℕ) → get_or a i 0 < 256) → ((i : ℕ) → get_or b i 0 < 256) → (rows_a rows_b : Rows) → read_verdict a rows_a ≡ Taken
+    → read_verdict b rows_b ≡ Taken → net_read a ≡ net_read b → a ≡ b
+one_file a b x y rows_a rows_b p q e = accepted_is_written a x rows_a p ∙ ap file_of e ∙ sym (accepted_is_written b y rows_b q)

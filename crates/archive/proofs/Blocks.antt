@@ -117,10 +117,10 @@ module _ (links parents : List ℕ) (search : Search) where
       part_held room e = record { low = stands.low; fits = omega (arith, held_room part fit, e) }
 
       pub block_made :
-          (before laidOut after : List ℕ)
-          → length before ≡ block_bytes → laidOut ≡ laid (record_by links parents search entries part.kind) part before
-          → after ≡ sealed part.kind i part.used laidOut → after ≡ block_of g i
-      block_made before laidOut after e q s =
+          (before laid_out after : List ℕ)
+          → length before ≡ block_bytes → laid_out ≡ laid (record_by links parents search entries part.kind) part before
+          → after ≡ sealed part.kind i part.used laid_out → after ≡ block_of g i
+      block_made before laid_out after e q s =
           s
           ∙ (ap (sealed part.kind i part.used) q
           ∙ (sealed-is

@@ -7,7 +7,7 @@ use native.Mathlib.Omega.{arith}
 use lib.ListN.{length, take, drop, replicate, length-append, length-replicate}
 use borrow.Author.Tests.{ne_eqb, le-leb, lt-leb}
 use Rattle.edition.specs.Stored.{block_bytes, front_bytes, payload_bytes, header_kind, links_kind, table_kind, header_bytes, link_bytes, entry_bytes}
-use Rattle.edition.specs.Stored.{headers_aBlock, links_aBlock, entries_aBlock}
+use Rattle.edition.specs.Stored.{headers_a_block, links_a_block, entries_a_block}
 use Rattle.rows.specs.Count.{rows_to}
 use Rattle.rows.proofs.Records.{rows_at, rows_length}
 use Rattle.network.specs.Network.{Net}
@@ -92,27 +92,27 @@ module _ (g : Net) where
   -- the header's record
   pub header_there : take header_bytes (drop 8 (file_of g)) ≡ header_record n m g.search
   unfolding block_count part_at part_of record_of record_bytes
-  header_there = record-there 0 (omega arith) (part_of header_kind headers_aBlock 1 0) refl 0 (omega arith)
+  header_there = record-there 0 (omega arith) (part_of header_kind headers_a_block 1 0) refl 0 (omega arith)
 
   -- the record of a link
   pub link-there : (e : ℕ) → e < m → take link_bytes (drop (link_place e) (file_of g)) ≡ link_record (g.link e)
   unfolding block_count blocks_for part_at part_of record_of record_bytes link_place
   link-there e l =
-      let i = 1 + e / links_aBlock in
-      let r = e % links_aBlock in
-      let here : (i - 1) * links_aBlock + r ≡ e = omega arith in
-      let is : part_at n m i ≡ part_of links_kind links_aBlock m (i - 1) = rw (ne_eqb i 0 (λ z. omega (arith, z)), le-leb i (link_blocks m) (omega (arith, l))) in
-      record-there i (omega (arith, l)) (part_of links_kind links_aBlock m (i - 1)) is r (omega (arith, l))
+      let i = 1 + e / links_a_block in
+      let r = e % links_a_block in
+      let here : (i - 1) * links_a_block + r ≡ e = omega arith in
+      let is : part_at n m i ≡ part_of links_kind links_a_block m (i - 1) = rw (ne_eqb i 0 (λ z. omega (arith, z)), le-leb i (link_blocks m) (omega (arith, l))) in
+      record-there i (omega (arith, l)) (part_of links_kind links_a_block m (i - 1)) is r (omega (arith, l))
       ∙ ap (λ (k : ℕ). link_record (g.link k)) here
 
   -- the entry of a node
   pub entry-there : (x : ℕ) → x < n → take entry_bytes (drop (entry_place m x) (file_of g)) ≡ entry_record (g.parent x) (entry g x)
   unfolding block_count blocks_for part_at part_of record_of record_bytes entry_place
   entry-there x l =
-      let i = 1 + link_blocks m + x / entries_aBlock in
-      let r = x % entries_aBlock in
-      let here : (i - 1 - link_blocks m) * entries_aBlock + r ≡ x = omega arith in
-      let is : part_at n m i ≡ part_of table_kind entries_aBlock n (i - 1 - link_blocks m) =
+      let i = 1 + link_blocks m + x / entries_a_block in
+      let r = x % entries_a_block in
+      let here : (i - 1 - link_blocks m) * entries_a_block + r ≡ x = omega arith in
+      let is : part_at n m i ≡ part_of table_kind entries_a_block n (i - 1 - link_blocks m) =
       rw (ne_eqb i 0 (λ z. omega (arith, z)), lt-leb i (link_blocks m) (omega arith)) in
-      record-there i (omega (arith, l)) (part_of table_kind entries_aBlock n (i - 1 - link_blocks m)) is r (omega (arith, l))
+      record-there i (omega (arith, l)) (part_of table_kind entries_a_block n (i - 1 - link_blocks m)) is r (omega (arith, l))
       ∙ ap (λ (k : ℕ). entry_record (g.parent k) (entry g k)) here

@@ -9,7 +9,7 @@ use lib.Dec.{eqb, leb}
 use lib.ListN.{length}
 use borrow.Author.Tests.{eqb-true, eqb-false, ne_eqb, leb-true, leb-false, le-ltb}
 use Rattle.edition.specs.Limits.{node_limit, link_limit}
-use Rattle.edition.specs.Stored.{payload_bytes, header_kind, links_kind, table_kind, header_bytes, link_bytes, entry_bytes, headers_aBlock, links_aBlock, entries_aBlock}
+use Rattle.edition.specs.Stored.{payload_bytes, header_kind, links_kind, table_kind, header_bytes, link_bytes, entry_bytes, headers_a_block, links_a_block, entries_a_block}
 use Rattle.rows.proofs.Tests.{clash}
 use Rattle.numbers.specs.Bytes.{word_most}
 use Rattle.block.specs.Block.{capacity, record_bytes, no_such_block}
@@ -34,9 +34,9 @@ product_small a b l m = mul-le-mul l m
 -- a part of a file is the header's, one of links or one of entries
 pub by_part :
     (P : Part → Type 0) (n m i : ℕ)
-    → (i ≡ 0 → P (part_of header_kind headers_aBlock 1 0))
-    → (0 < i → i ≤ link_blocks m → P (part_of links_kind links_aBlock m (i - 1)))
-    → (link_blocks m < i → P (part_of table_kind entries_aBlock n (i - 1 - link_blocks m))) → P (part_at n m i)
+    → (i ≡ 0 → P (part_of header_kind headers_a_block 1 0))
+    → (0 < i → i ≤ link_blocks m → P (part_of links_kind links_a_block m (i - 1)))
+    → (link_blocks m < i → P (part_of table_kind entries_a_block n (i - 1 - link_blocks m))) → P (part_at n m i)
 unfolding part_at
 by_part P n m i header links entries = go (eqb i 0) refl (leb i (link_blocks m)) refl
   where
@@ -60,7 +60,7 @@ kind_size kind header link own h l o = go (eqb kind header_kind) (eqb kind links
 
 -- a part whose records fit a block
 pub record Fit (p : Part) : Type 0 where
-  pub few : p.used ≤ links_aBlock
+  pub few : p.used ≤ links_a_block
   pub size : held_bytes p.kind ≡ record_bytes p.kind
   pub room : p.used * record_bytes p.kind ≤ payload_bytes
 
@@ -76,8 +76,8 @@ part_fit n m i =
     (λ l h. record { few = omega arith; size = refl; room = omega arith })
     (λ h. record { few = omega arith; size = refl; room = omega arith })
 
-pub part_small : (n m i : ℕ) (part : Part) → part ≡ part_at n m i → part.used ≤ links_aBlock
-part_small n m i part q = subst (λ (p : Part). p.used ≤ links_aBlock) (sym q) (part_fit n m i).few
+pub part_small : (n m i : ℕ) (part : Part) → part ≡ part_at n m i → part.used ≤ links_a_block
+part_small n m i part q = subst (λ (p : Part). p.used ≤ links_a_block) (sym q) (part_fit n m i).few
 
 -- each has some records, and no more than a block of its kind holds
 heard : (kind used : ℕ) → 0 < used → used ≤ capacity kind → no_such_block kind used ≡ false
@@ -89,8 +89,8 @@ unfolding part_of capacity block_count blocks_for
 part_such n m i l =
     by_part (λ p. no_such_block p.kind p.used ≡ false) n m i
     (λ e. heard header_kind 1 (omega arith) (omega arith))
-    (λ s h. heard links_kind (min links_aBlock (m - (i - 1) * links_aBlock)) (omega (arith, s, h)) (omega arith))
-    (λ h. heard table_kind (min entries_aBlock (n - (i - 1 - link_blocks m) * entries_aBlock)) (omega (arith, h, l)) (omega arith))
+    (λ s h. heard links_kind (min links_a_block (m - (i - 1) * links_a_block)) (omega (arith, s, h)) (omega arith))
+    (λ h. heard table_kind (min entries_a_block (n - (i - 1 - link_blocks m) * entries_a_block)) (omega (arith, h, l)) (omega arith))
 
 -- a part whose records there are
 pub record Stands (n : ℕ) (p : Part) : Type 0 where

@@ -12,7 +12,7 @@ use Rattle.edition.specs.declared.Verdict.{Verdict}
 use Rattle.edition.specs.declared.Verdict.TheVariants.{Taken}
 use Rattle.edition.specs.declared.Why.TheVariants.{BadLength, NoRoom, BadEntry}
 use Rattle.edition.specs.Limits.{lowest_number, longest}
-use Rattle.edition.specs.Stored.{edition_limits, by_number, block_bytes, table_kind, entry_bytes, entries_aBlock}
+use Rattle.edition.specs.Stored.{edition_limits, by_number, block_bytes, table_kind, entry_bytes, entries_a_block}
 use Rattle.rows.specs.Count.{rows_to}
 use Rattle.rows.specs.First.{refuse_if, refuse_at, firstly, verdict_to}
 use Rattle.rows.specs.Lists.{same}
@@ -55,7 +55,7 @@ module _ (g : Net) where
       by_part (λ p. p.kind ≡ table_kind → (r : ℕ) → r < p.used → Zeroed (records_of g p) r) n m i
       (λ e q. absurd (omega (arith, q)))
       (λ s h q. absurd (omega (arith, q)))
-      (λ h q. entries_clean ((i - 1 - link_blocks m) * entries_aBlock) (min entries_aBlock (n - (i - 1 - link_blocks m) * entries_aBlock)))
+      (λ h q. entries_clean ((i - 1 - link_blocks m) * entries_a_block) (min entries_a_block (n - (i - 1 - link_blocks m) * entries_a_block)))
 
   -- every block of the file is taken
   block-taken : (i : ℕ) → i < block_count n m → block_refusal (file_of g) n m i ≡ Taken

@@ -5,9 +5,15 @@
 // 1 the change of a link (of each link outside the tree in turn, withdrawn and then in service again), 2 the write of the file,
 // 3 its read. One that is not a whole network within the limits, or that is refused, prints `refused`.
 #![tactic(auto)]
+
 use archive::{ReadAnswer, WriteAnswer};
 use edition::{Change, Edition, Memory, Search, Verdict};
 use test_words::HEAD;
+
+// The numbers of standard input and output.
+const STDIN: i32 = 0;
+
+const STDOUT: i32 = 1;
 
 // Bytes of the longest input, and one more, by which a longer one is seen.
 const BYTES: usize = 2 * (HEAD + Memory::NODES + Memory::LINK_ROW + 1) + 1;
@@ -28,7 +34,7 @@ enum Outcome {
 
 // The number turned by one bit, and another one added, modulo 2^64.
 fn mix(sum: u64, more: u64) -> u64 {
-    std::num::wrapping_add_u64((sum << 1) | (sum >> 63), more)
+    ((sum << 1) | (sum >> 63)).wrapping_add(more)
 }
 
 // A row of numbers mixed into one.
@@ -292,11 +298,11 @@ fn worked(
 fn print(said: Outcome) {
     match said {
         Outcome::Number(sum) => {
-            io::print_decimal(libc::STDOUT_FILENO, sum);
-            io::write_all(libc::STDOUT_FILENO, b"\n");
+            io::print_decimal(STDOUT, sum);
+            io::write_all(STDOUT, b"\n");
         }
         Outcome::Refused => {
-            io::write_all(libc::STDOUT_FILENO, b"refused\n");
+            io::write_all(STDOUT, b"refused\n");
         }
     }
 }
@@ -309,7 +315,7 @@ fn run(
     entries: &mut [u64],
     file: &mut [u8],
 ) {
-    let got = io::read_full(libc::STDIN_FILENO, raw);
+    let got = io::read_full(STDIN, raw);
     print(worked(&raw[0..got], links, parents, entries, file));
 }
 

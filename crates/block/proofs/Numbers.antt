@@ -1,5 +1,5 @@
 -- Which of SCOPE's numbers the block reader can give, and no other. Assumes nothing.
-use mathlib.Core.Path.{◌≡◌, refl}
+use mathlib.Core.Path.{refl}
 use mathlib.Core.List.{List, [], ◌∷◌}
 use Prim.Native.Nat.{ℕ}
 use Rattle.edition.specs.declared.Why.TheVariants.{BadLength, BadCheck, BadBlock}

@@ -3,7 +3,7 @@ use Prim.Native.Nat.{ℕ}
 use mathlib.Core.List.{List}
 use Prim.Native.Nat.{◌+◌}
 use Rattle.block.specs.Block.{block_verdict}
-use Rattle.block.specs.Block.{payload as payloadOf, payload_place, sealed}
+use Rattle.block.specs.Block.{payload, payload_place, sealed}
 use Rattle.edition.proofs.Only.{One, one}
 
 -- `block::check_block`
@@ -11,11 +11,11 @@ pub one_check_block : (kind number used : ℕ) (b : List ℕ) → One (block_ver
 one_check_block kind number used b = one _
 
 -- `block::payload`
-pub one-payload :
+pub one_payload :
     (kind number used : ℕ) (b : List ℕ) (start : ℕ) →
-    One (payloadOf kind number used b)
+    One (payload kind number used b)
     × One (payload_place kind number used b + start)
-one-payload kind number used b start = (one _, one _)
+one_payload kind number used b start = (one _, one _)
 
 -- `block::seal`
 pub one_seal : (kind number used : ℕ) (b : List ℕ) → One (sealed kind number used b)

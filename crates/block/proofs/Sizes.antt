@@ -6,17 +6,17 @@ use native.Mathlib.Omega.{arith}
 use lib.Dec.{eqb, ltb}
 use borrow.Author.Tests.{ltb-false}
 use Rattle.edition.specs.Stored.{block_bytes, front_bytes, payload_bytes, header_kind, links_kind, table_kind, header_bytes, link_bytes, entry_bytes}
-use Rattle.edition.specs.Stored.{headers_aBlock, links_aBlock, entries_aBlock}
+use Rattle.edition.specs.Stored.{headers_a_block, links_a_block, entries_a_block}
 use Rattle.rows.proofs.Tests.{or_false}
 use Rattle.block.specs.Block.{capacity, record_bytes, no_such_block}
 
 by_kind :
     (x y z : Bool) (used : ℕ)
-    → ltb (cond x headers_aBlock (cond y links_aBlock (cond z entries_aBlock 0))) used ≡ false
+    → ltb (cond x headers_a_block (cond y links_a_block (cond z entries_a_block 0))) used ≡ false
     → used * cond x header_bytes (cond y link_bytes (cond z entry_bytes 0)) ≤ payload_bytes
-by_kind true y z used h = omega (arith, ltb-false headers_aBlock used h)
-by_kind false true z used h = omega (arith, ltb-false links_aBlock used h)
-by_kind false false true used h = omega (arith, ltb-false entries_aBlock used h)
+by_kind true y z used h = omega (arith, ltb-false headers_a_block used h)
+by_kind false true z used h = omega (arith, ltb-false links_a_block used h)
+by_kind false false true used h = omega (arith, ltb-false entries_a_block used h)
 by_kind false false false used h = omega arith
 
 pub such_size : (kind used : ℕ) → no_such_block kind used ≡ false → used * record_bytes kind ≤ payload_bytes

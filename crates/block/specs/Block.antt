@@ -4,7 +4,7 @@ use Rattle.edition.specs.declared.Verdict.{Verdict}
 use Rattle.edition.specs.declared.Why.TheVariants.{BadLength, BadCheck, BadBlock}
 use Rattle.edition.specs.Refusals.{if_taken}
 use Rattle.edition.specs.Stored.{edition_one, block_bytes, front_bytes, payload_bytes, header_kind, links_kind, table_kind, header_bytes, link_bytes}
-use Rattle.edition.specs.Stored.{entry_bytes, headers_aBlock, links_aBlock, entries_aBlock}
+use Rattle.edition.specs.Stored.{entry_bytes, headers_a_block, links_a_block, entries_a_block}
 use Rattle.rows.specs.Count.{some_to}
 use Rattle.rows.specs.First.{refuse_if, firstly}
 use Rattle.rows.specs.Lists.{same}
@@ -14,8 +14,8 @@ use Rattle.block.specs.Bytes.{checksum, dirty}
 -- How many records a block of a kind holds: none where the kind is none of the three.
 unfoldable pub capacity : ℕ → ℕ
 capacity kind =
-    cond (eqb kind header_kind) headers_aBlock
-    (cond (eqb kind links_kind) links_aBlock (cond (eqb kind table_kind) entries_aBlock 0))
+    cond (eqb kind header_kind) headers_a_block
+    (cond (eqb kind links_kind) links_a_block (cond (eqb kind table_kind) entries_a_block 0))
 
 -- How many bytes a record of a kind takes.
 unfoldable pub record_bytes : ℕ → ℕ

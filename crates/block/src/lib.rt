@@ -6,7 +6,7 @@ ghost use Rattle.edition.specs.Stored.{block_bytes, front_bytes, entry_bytes};
 ghost use Rattle.rows.specs.Count.{some_to};
 ghost use Rattle.block.specs.Bytes.{dirty};
 ghost use Rattle.block.specs.Block.{capacity, record_bytes, check_of, dirty_entry, bad_filler, no_such_block, bad_block, block_verdict};
-ghost use Rattle.block.specs.Block.{payload as payloadOf, payload_place, sealed};
+ghost use Rattle.block.specs.Block.{payload, payload_place, sealed};
 ghost use Rattle.block.specs.Work.{block_words, word_of, folded_sum, bad_front, with_front, cleared};
 
 use edition::{Edition, Refusal, Verdict, Why};
@@ -229,7 +229,7 @@ pub fn check_block(kind: u16, number: u16, used: u16, b: &[u8]) -> Verdict
 
 // The payload of a sound block, as that part of the lent bytes and no copy; an empty part otherwise.
 pub fn payload(kind: u16, number: u16, used: u16, b: &[u8]) -> &[u8]
-    ensures part { result.now ≡ payloadOf kind number used b.now }
+    ensures part { result.now ≡ payload kind number used b.now }
     // The part begins at that place of the same lent bytes: `.ptr .0` is whose bytes they are, `.ptr .1` where in them.
     ensures place { (result.ref_ptr.0 ≡ b.entry.ref_ptr.0)
         × (result.ref_ptr.1 ≡ payload_place kind number used b.now + b.entry.ref_ptr.1) }

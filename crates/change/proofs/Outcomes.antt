@@ -15,7 +15,7 @@ pub one_check_change :
 one_check_change links parents search entries change = one _
 
 -- `change::change`
-pub one-change :
+pub one_change :
     (links parents : List ℕ) (search : Search) (entries : List ℕ) (change : Change) →
     let lent : Lent = record { links = links; entries = entries } in
     let g = net_of links parents search in
@@ -23,4 +23,4 @@ pub one-change :
     One (change_verdict g lent.entries change)
     × One after.links
     × One after.entries
-one-change links parents search entries change = (one _, one _, one _)
+one_change links parents search entries change = (one _, one _, one _)

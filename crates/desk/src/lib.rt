@@ -1,10 +1,20 @@
 // What the desk programs share: files by name, and what is said on standard error. A function that says why something went
 // wrong answers false, which its caller hands up.
 #![tactic(auto)]
-ghost use Rattle.std.specs.Prelude.{◌≡◌, true, false, ◌+◌, ◌≤◌, leb, length};
+
+ghost use Rattle.std.specs.Prelude.{◌≡◌, true, false, ◌+◌, ◌-◌, ◌≤◌, leb, length, IfOk};
 ghost use Rattle.desk.specs.Longest.{longest_file, longest_text};
 
 use edition::{Edition, Refusal, Why};
+use std::env::FillError;
+use std::fmt::Write as Text;
+use std::fs::{File, OpenFile};
+use std::io::{Error, ErrorKind, Print, Read, Result, Write};
+use std::rt::{Env, Files};
+use std::{fmt, fs};
+
+// The number of standard error.
+const STDERR: i32 = 2;
 
 // The longest name of a file, the longest file that is read or written, and the longest text, in bytes.
 #[derive(Clone, Copy)]
@@ -29,12 +39,12 @@ pub enum Got {
 
 // Says something on standard error.
 fn say(text: &[u8]) {
-    io::write_all(libc::STDERR_FILENO, text);
+    io::write_all(STDERR, text);
 }
 
 // Says a number on standard error.
 fn say_number(n: u64) {
-    io::print_decimal(libc::STDERR_FILENO, n);
+    io::print_decimal(STDERR, n);
 }
 
 // Says how a program is called.
@@ -173,7 +183,7 @@ fn no_name(word: &[u8]) -> bool
     false
 }
 
-// Whether a word of the command, by the length that `os::arg` answered, is a name: it answers 0 of one that is empty or too long.
+// Whether a word of the command, by the length that `arg` answered, is a name: it answers 0 of one that is empty or too long.
 // Where it is none, that is said of the word as the usage calls it.
 pub fn is_name(word: &[u8], size: usize) -> bool
     ensures { result ≡ leb 1 size }
@@ -184,64 +194,163 @@ pub fn is_name(word: &[u8], size: usize) -> bool
     no_name(word)
 }
 
-// Reads once into the room from a place on, and answers what `libc::read` did: how many bytes, 0 at the file's end, or -1.
-fn read_once(file: i32, room: &mut [u8], at: usize) -> isize {
-    let end = room.len();
-    if end < at {
-        return 0;
+// How many words the command has, the program's own name among them.
+pub fn arg_count<R: Env>(rt: &R) -> usize {
+    let mut room = [0u8; 1];
+    for i in 0..usize::MAX {
+        if let Err(FillError::NotPresent) = rt.arg(i, &mut room) {
+            return i;
+        }
     }
-    libc::read(file, &mut room[at..end])
+    usize::MAX
 }
 
-// Reads until the file ends or the room is full, and answers how many bytes that is, or that a read failed.
-fn read_on(file: i32, room: &mut [u8]) -> Got {
+// Puts word i of the command at the start of the room and answers its length, or 0 where there is none or it does not fit.
+pub fn arg<R: Env>(rt: &R, i: usize, room: &mut [u8]) -> usize
+    ensures { result ≤ length room.new }
+{
+    match rt.arg(i, room) {
+        Ok(size) => size,
+        Err(_) => 0,
+    }
+}
+
+// The text of an error, as far as there is room for it.
+#[derive(Drop)]
+struct Reason {
+    room: [u8; 256],
+    size: usize,
+}
+
+impl fmt::Write for Reason {
+    fn write_str(&mut self, s: &str) -> fmt::Result {
+        self.size = append(&mut self.room, self.size, s.as_bytes());
+        Ok(())
+    }
+}
+
+// The first bytes of a text, or all of it where it has fewer.
+fn first(text: &[u8], size: usize) -> &[u8] {
+    if size < text.len() {
+        return &text[0..size];
+    }
+    text
+}
+
+// How many bytes of an error's text stand before its number, which the library puts behind what the system says of it.
+fn unnumbered(text: &[u8]) -> usize {
+    for i in 0..text.len() {
+        if text[i..].starts_with(b" (os error ") {
+            return i;
+        }
+    }
+    text.len()
+}
+
+// Says why something failed, as the system says it: `NAME: TEXT`.
+fn fail(name: &[u8], error: Error) {
+    let mut reason = Reason {
+        room: [0; 256],
+        size: 0,
+    };
+    let written = write!(reason, "{error}");
+    if written.is_err() {
+        complain(name, b"it failed");
+        return;
+    }
+    let text = first(&reason.room, reason.size);
+    complain(name, first(text, unnumbered(text)));
+}
+
+// A name as the library takes it, which is text.
+fn path_of(name: &[u8]) -> Result<&str> {
+    match str::from_utf8(name) {
+        Ok(path) => Ok(path),
+        Err(_) => Err(Error::new(ErrorKind::InvalidInput, "the name is not UTF-8")),
+    }
+}
+
+// Opens a file, or a folder, for reading.
+fn open<R: Files>(rt: &R, name: &[u8]) -> Result<R::File> {
+    File::open(rt, path_of(name)?)
+}
+
+// Makes a file that is not there yet, and opens it for writing.
+fn create<R: Files>(rt: &R, name: &[u8]) -> Result<R::File> {
+    File::options()
+        .write(true)
+        .create_new(true)
+        .open(rt, path_of(name)?)
+}
+
+// Reads once into the room from a place on, and answers how many bytes, 0 at the file's end, or why it could not.
+fn read_once<F: Read>(file: &mut F, room: &mut [u8], at: usize) -> Result<usize>
+    ensures { IfOk result (λ n. n ≤ length room.new - at) }
+{
+    let end = room.len();
+    if end < at {
+        return Ok(0);
+    }
+    file.read(&mut room[at..end])
+}
+
+// Reads until the file ends or the room is full, and answers how many bytes that is, or why a read failed.
+fn read_on<F: Read>(file: &mut F, room: &mut [u8]) -> Result<usize> {
     let end = room.len();
     let mut done = 0;
     while done < end {
-        let got = read_once(file, room, done);
-        if got < 0 {
-            return Got::Not;
-        }
-        let more = io::count(got, &room[done..end]);
+        let more = read_once(file, room, done)?;
         if more == 0 {
-            return Got::Is(done);
+            return Ok(done);
         }
         done += more;
     }
-    Got::Is(done)
+    Ok(done)
+}
+
+// Room for the longest text and one byte more, by which a longer one is seen. The `ensures` gives only the length, which is what
+// lending the room as a slice needs.
+pub fn text_room() -> [u8; Desk::TEXT + 1]
+    ensures { length result ≡ longest_text + 1 }
+{
+    [0; Desk::TEXT + 1]
+}
+
+// Opens the file and reads it, or as much of it as the room holds.
+fn read_all<R: Files>(rt: &R, name: &[u8], room: &mut [u8]) -> Result<usize> {
+    let mut file = open(rt, name)?;
+    read_on(&mut file, room)
 }
 
 // Reads the file, or as much of it as the room holds, and answers how many bytes that is. Where it cannot be opened, or not
 // be read to its end, that is said.
-pub fn read(name: &[u8], room: &mut [u8]) -> Got
+pub fn read<R: Files>(rt: &R, name: &[u8], room: &mut [u8]) -> Got
     ensures { length room.new ≡ length room.old }
 {
-    let file = os::open_read(name);
-    if file < 0 {
-        os::fail(name);
-        return Got::Not;
+    match read_all(rt, name, room) {
+        Ok(size) => Got::Is(size),
+        Err(error) => {
+            fail(name, error);
+            Got::Not
+        }
     }
-    let got = read_on(file, room);
-    if let Got::Not = got {
-        os::fail(name);
-    }
-    libc::close(file);
-    got
 }
 
 // Prints the first bytes of a text, as many as `size`, on standard output and answers whether it did, which it does of no more
 // bytes than the text has. Where they cannot all be written, that is said.
-pub fn print(text: &[u8], size: usize) -> bool
+pub fn print<R: Print>(rt: &R, text: &[u8], size: usize) -> bool
     ensures { result ≡ true → size ≤ length text.now }
 {
     if text.len() < size {
         return complain(b"standard output", b"there are fewer bytes than its length");
     }
-    if io::write_all(libc::STDOUT_FILENO, &text[0..size]) {
-        return true;
+    match rt.write_all(&text[0..size]) {
+        Ok(()) => true,
+        Err(error) => {
+            fail(b"standard output", error);
+            false
+        }
     }
-    os::fail(b"standard output");
-    false
 }
 
 // Copies a text into the room from a place on, where it fits, and answers the place behind it.
@@ -260,42 +369,60 @@ fn append(room: &mut [u8], at: usize, text: &[u8]) -> usize {
     at + text.len()
 }
 
+// Takes a file's name away.
+fn unlink<R: Files>(rt: &R, part: &[u8]) -> Result<()> {
+    fs::remove_file(rt, path_of(part)?)
+}
+
 // Removes a file that gets no name; where it stays, that is said.
-fn remove(part: &[u8]) {
-    if os::unlink(part) != 0 {
+fn remove<R: Files>(rt: &R, part: &[u8]) {
+    if unlink(rt, part).is_err() {
         complain(part, b"it could not be removed");
     }
 }
 
+// Writes all of a file and waits until it is on the disk.
+fn write_synced<F: Write + OpenFile>(file: &mut F, bytes: &[u8]) -> Result<()> {
+    file.write_all(bytes)?;
+    file.sync_all()
+}
+
+// Writes all of a new file, waits until it is on the disk and closes it.
+fn write_closed<F: Write + OpenFile + Drop>(file: F, bytes: &[u8]) -> Result<()> {
+    let mut open = file;
+    write_synced(&mut open, bytes)
+}
+
 // Writes all of a new file and waits until it is on the disk; where that fails, it is said and the file is removed.
-fn fill_new(file: i32, part: &[u8], bytes: &[u8]) -> bool {
-    if io::write_all(file, bytes) {
-        if libc::fsync(file) == 0 {
-            libc::close(file);
-            return true;
+fn fill_new<R: Files>(rt: &R, file: R::File, part: &[u8], bytes: &[u8]) -> bool {
+    match write_closed(file, bytes) {
+        Ok(()) => true,
+        Err(error) => {
+            fail(part, error);
+            remove(rt, part);
+            false
         }
     }
-    os::fail(part);
-    libc::close(file);
-    remove(part);
-    false
+}
+
+// Looks for what stands under a name, and does not follow its last part: where there is nothing it fails as NotFound, where
+// there is something that is no link as InvalidInput, and where there is a link to a name that is no text as InvalidFilename.
+fn look<R: Files + Alloc>(rt: &R, name: &[u8]) -> Result<()> {
+    fs::read_link(rt, path_of(name)?)?;
+    Ok(())
 }
 
 // Whether nothing stands under a name, no link that leads nowhere either; where something does, or that cannot be seen, it is
-// said. `readlink` does not follow the name's last part: where there is nothing it fails with ENOENT, where there is something
-// that is no link with EINVAL.
-fn is_free(name: &[u8]) -> bool {
-    let mut path = io::buffer();
-    append(&mut path, 0, name);
-    path[libc::PATH_MAX - 1] = 0;
-    let mut text = [0u8; 1];
-    if libc::readlink(&path, &mut text) < 0 {
-        if os::errno() == libc::ENOENT {
-            return true;
-        }
-        if os::errno() != libc::EINVAL {
-            os::fail(name);
-            return false;
+// said.
+fn is_free<R: Files + Alloc>(rt: &R, name: &[u8]) -> bool {
+    if let Err(error) = look(rt, name) {
+        match error.kind() {
+            ErrorKind::NotFound => return true,
+            ErrorKind::InvalidInput | ErrorKind::InvalidFilename => {}
+            _ => {
+                fail(name, error);
+                return false;
+            }
         }
     }
     complain(name, b"there is a file of this name")
@@ -313,72 +440,98 @@ fn last_part(name: &[u8]) -> usize {
     0
 }
 
+// Opens a folder and waits until it is on the disk.
+fn sync_open<R: Files>(rt: &R, folder: &[u8]) -> Result<()> {
+    open(rt, folder)?.sync_all()
+}
+
 // Waits until a folder is on the disk, and answers whether it is.
-fn sync_folder(folder: &[u8]) -> bool {
-    let file = os::open_read(folder);
-    if file < 0 {
-        return false;
-    }
-    let synced = libc::fsync(file) == 0;
-    libc::close(file);
-    synced
+fn sync_folder<R: Files>(rt: &R, folder: &[u8]) -> bool {
+    sync_open(rt, folder).is_ok()
 }
 
 // The same for the folder in which a name stands.
-fn sync_name(name: &[u8]) -> bool {
+fn sync_name<R: Files>(rt: &R, name: &[u8]) -> bool {
     let k = last_part(name);
     if k == 0 {
-        return sync_folder(b".");
+        return sync_folder(rt, b".");
     }
     if name.len() < k {
         return false;
     }
-    sync_folder(&name[0..k])
+    sync_folder(rt, &name[0..k])
+}
+
+// Gives a file another name.
+fn rename<R: Files>(rt: &R, part: &[u8], name: &[u8]) -> Result<()> {
+    fs::rename(rt, path_of(part)?, path_of(name)?)
 }
 
 // Gives the file its name and waits until that is on the disk. Where it gets no name, that is said and the file is removed.
-fn name_new(part: &[u8], name: &[u8]) -> bool {
-    if os::rename(part, name) != 0 {
-        os::fail(name);
-        remove(part);
+fn name_new<R: Files>(rt: &R, part: &[u8], name: &[u8]) -> bool {
+    if let Err(error) = rename(rt, part, name) {
+        fail(name, error);
+        remove(rt, part);
         return false;
     }
-    if sync_name(name) {
+    if sync_name(rt, name) {
         return true;
     }
     complain(name, b"it is made, but its folder could not be synced")
 }
 
 // Gives the file its name once the first bytes of `out` are printed; where they are not, it is removed.
-fn print_and_name(part: &[u8], name: &[u8], out: &[u8], waits: usize) -> bool {
-    if print(out, waits) {
-        return name_new(part, name);
+fn print_and_name<R: Files + Print>(
+    rt: &R,
+    part: &[u8],
+    name: &[u8],
+    out: &[u8],
+    waits: usize,
+) -> bool {
+    if print(rt, out, waits) {
+        return name_new(rt, part, name);
     }
-    remove(part);
+    remove(rt, part);
     false
 }
 
 // Makes the file `part` of these bytes and gives it its name, which is looked for once `part` is there: no other run for this
 // name goes on then.
-fn make(part: &[u8], name: &[u8], bytes: &[u8], out: &[u8], waits: usize) -> bool {
-    let file = os::create(part);
-    if file < 0 {
-        os::fail(part);
-        return false;
+fn make<R: Files + Print + Alloc>(
+    rt: &R,
+    part: &[u8],
+    name: &[u8],
+    bytes: &[u8],
+    out: &[u8],
+    waits: usize,
+) -> bool {
+    match create(rt, part) {
+        Ok(file) => {
+            if !is_free(rt, name) {
+                drop(file);
+                remove(rt, part);
+                return false;
+            }
+            if fill_new(rt, file, part, bytes) {
+                return print_and_name(rt, part, name, out, waits);
+            }
+            false
+        }
+        Err(error) => {
+            fail(part, error);
+            false
+        }
     }
-    if !is_free(name) {
-        libc::close(file);
-        remove(part);
-        return false;
-    }
-    if fill_new(file, part, bytes) {
-        return print_and_name(part, name, out, waits);
-    }
-    false
 }
 
 // Makes a new file of these bytes and answers whether it did: first under its name with `.part` behind it, then by a rename.
-fn write_bytes(name: &[u8], bytes: &[u8], out: &[u8], waits: usize) -> bool {
+fn write_bytes<R: Files + Print + Alloc>(
+    rt: &R,
+    name: &[u8],
+    bytes: &[u8],
+    out: &[u8],
+    waits: usize,
+) -> bool {
     if Desk::NAME < name.len() {
         return complain(name, b"the name is too long");
     }
@@ -388,17 +541,24 @@ fn write_bytes(name: &[u8], bytes: &[u8], out: &[u8], waits: usize) -> bool {
     if room.len() < ended {
         return false;
     }
-    make(&room[0..ended], name, bytes, out, waits)
+    make(rt, &room[0..ended], name, bytes, out, waits)
 }
 
 // Makes a new file of the first bytes of a row, as many as `size`, and answers whether it did, which it does of no more bytes
 // than the row has. No file of the name is ever half written; whatever stands under the name stays, and it is said. The first
 // bytes of `out`, as many as `waits`, are printed before the file gets its name: where that fails there is no file.
-pub fn write_new(name: &[u8], row: &[u8], size: usize, out: &[u8], waits: usize) -> bool
+pub fn write_new<R: Files + Print + Alloc>(
+    rt: &R,
+    name: &[u8],
+    row: &[u8],
+    size: usize,
+    out: &[u8],
+    waits: usize,
+) -> bool
     ensures { result ≡ true → size ≤ length row.now }
 {
     if row.len() < size {
         return complain(name, b"there are fewer bytes than its length");
     }
-    write_bytes(name, &row[0..size], out, waits)
+    write_bytes(rt, name, &row[0..size], out, waits)
 }

@@ -12,8 +12,8 @@ use Rattle.edition.specs.declared.Why.{Why}
 use Rattle.edition.proofs.Only.{One, one}
 
 -- `edition::Search::aim`
-pub one-search_aim : (self : Search) → One (aim_of self)
-one-search_aim self = one _
+pub one_search_aim : (self : Search) → One (aim_of self)
+one_search_aim self = one _
 
 -- `edition::Aim::by_number`
 pub one_aim_by_number : (self : Aim) → One (by_number self)
@@ -24,24 +24,24 @@ pub one_edition_limits : One (edition_limits)
 one_edition_limits = one _
 
 -- `edition::Edition::no_link`
-pub one_edition_no-link : One (no_link)
-one_edition_no-link = one _
+pub one_edition_no_link : One (no_link)
+one_edition_no_link = one _
 
 -- `edition::Edition::no_node`
-pub one_edition_no-node : One (no_node)
-one_edition_no-node = one _
+pub one_edition_no_node : One (no_node)
+one_edition_no_node = one _
 
 -- `edition::Edition::no_swap`
 pub one_edition_no_swap : One (no_swap)
 one_edition_no_swap = one _
 
 -- `edition::Edition::blank_entry`
-pub one_edition_blank-entry : (state : ℕ) → One (blank state)
-one_edition_blank-entry state = one _
+pub one_edition_blank_entry : (state : ℕ) → One (blank state)
+one_edition_blank_entry state = one _
 
 -- `edition::Edition::root_entry`
-pub one_edition_root-entry : One (blank 0)
-one_edition_root-entry = one _
+pub one_edition_root_entry : One (blank 0)
+one_edition_root_entry = one _
 
 -- `edition::Memory::limits`
 pub one_memory_limits : One (memory_limits)

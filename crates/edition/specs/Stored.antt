@@ -70,16 +70,16 @@ abbrev pub entry_bytes : ℕ
 entry_bytes = 28
 
 -- Records in the header block.
-abbrev pub headers_aBlock : ℕ
-headers_aBlock = 1
+abbrev pub headers_a_block : ℕ
+headers_a_block = 1
 
 -- Links in a full block.
-abbrev pub links_aBlock : ℕ
-links_aBlock = 63
+abbrev pub links_a_block : ℕ
+links_a_block = 63
 
 -- Entries in a full block.
-abbrev pub entries_aBlock : ℕ
-entries_aBlock = 18
+abbrev pub entries_a_block : ℕ
+entries_a_block = 18
 
 -- The largest file has 63 blocks.
 abbrev pub block_limit : ℕ

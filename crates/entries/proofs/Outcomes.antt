@@ -8,16 +8,16 @@ use Rattle.entries.specs.Row.{entries_in, entry_at, put_entry, past_entries}
 use Rattle.edition.proofs.Only.{One, one}
 
 -- `entries::entries_in`
-pub one-entries_in : (row : List ℕ) → One (entries_in row)
-one-entries_in row = one _
+pub one_entries_in : (row : List ℕ) → One (entries_in row)
+one_entries_in row = one _
 
 -- `entries::entry_there`
-pub one-entry-there : (row : List ℕ) (x : ℕ) → One (entry_at row x)
-one-entry-there row x = one _
+pub one_entry_there : (row : List ℕ) (x : ℕ) → One (entry_at row x)
+one_entry_there row x = one _
 
 -- `entries::entry_at`
-pub one-entry_at : (row : List ℕ) (x : ℕ) → One (entry_at row x)
-one-entry_at row x = one _
+pub one_entry_at : (row : List ℕ) (x : ℕ) → One (entry_at row x)
+one_entry_at row x = one _
 
 -- `entries::put_there`
 pub one_put_there : (row : List ℕ) (x : ℕ) (e : Entry) → One (put_entry row x e)
@@ -28,8 +28,8 @@ pub one_put_entry : (row : List ℕ) (x : ℕ) (e : Entry) → One (put_entry ro
 one_put_entry row x e = one _
 
 -- `entries::past_entries`
-pub one-past-entries : (row : List ℕ) (n : ℕ) → One (past_entries n row)
-one-past-entries row n = one _
+pub one_past_entries : (row : List ℕ) (n : ℕ) → One (past_entries n row)
+one_past_entries row n = one _
 
 -- `entries::numbers_of`
 pub one_numbers_of : (n : ℕ) → One (min n node_limit * entry_width)

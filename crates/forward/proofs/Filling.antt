@@ -1,7 +1,7 @@
 -- Verdicts, answers and rows of a call, case by case: refused by the network, by what is asked, for want of a swap link; or a list in one
 -- of the two rows. Assumes nothing.
 use mathlib.Core.Path.{◌≡◌, refl, sym, ◌∙◌}
-use mathlib.Core.Bool.{Bool, true, false, not}
+use mathlib.Core.Bool.{Bool, true, false}
 use mathlib.Core.List.{List}
 use Prim.Native.Nat.{ℕ, ◌<◌, ◌≤◌}
 use lib.Dec.{eqb, leb, ltb}

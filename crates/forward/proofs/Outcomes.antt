@@ -35,8 +35,8 @@ pub one_number_of : (it : Applies) → One (number_said it)
 one_number_of it = one _
 
 -- `forward::place_of`
-pub one-place_of : (it : Applies) → One (place_said it)
-one-place_of it = one _
+pub one_place_of : (it : Applies) → One (place_said it)
+one_place_of it = one _
 
 -- `forward::forward`
 pub one_forward :

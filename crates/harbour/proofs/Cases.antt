@@ -8,9 +8,9 @@ use Rattle.rows.proofs.Listed.{same_equal}
 use Rattle.harbour.specs.Asking.{Case, ◌gives◌, net_in, nine, room, list_room, list_said, numbers_of, answer, holds}
 use Rattle.harbour.specs.Harbour.{links, parents, harbour, links_turned, turned, round, alone, root_entry, bridge, one, two, three}
 use Rattle.harbour.specs.Harbour.{one_turned, three_turned, right, links_seven, links_nine, two_seven, one_nine, two_nine, cases}
-use Rattle.harbour.specs.Quay.{links_with, links as quayLinks, parents as quayParents, quay_with, quay, by_number, by_nearness}
-use Rattle.harbour.specs.Quay.{root_entry as quayRoot, one_by_number, one_by_nearness, two as quayTwo, three as quayThree, four, five, none, table_with}
-use Rattle.harbour.specs.Quay.{one_longer, three_longer, four_longer, longer, three_longest, four_longest, one_without, links_loose, cases as quayCases}
+use Rattle.harbour.specs.Quay.{links_with, links as quay_links, parents as quay_parents, quay_with, quay, by_number, by_nearness}
+use Rattle.harbour.specs.Quay.{root_entry as quay_root, one_by_number, one_by_nearness, two as quay_two, three as quay_three, four, five, none, table_with}
+use Rattle.harbour.specs.Quay.{one_longer, three_longer, four_longer, longer, three_longest, four_longest, one_without, links_loose, cases as quay_cases}
 use Rattle.edition.specs.Refusals.{number_of, said}
 use Rattle.rows.specs.Count.{sum_to, max_to, some_to, rows_to, only_if, row_with}
 use Rattle.rows.specs.First.{or_here, first_to, found_or, refused_at, refuse_at, refuse_if, firstly}
@@ -30,7 +30,7 @@ use Rattle.forward.specs.Forward.{cut_off, swap_link, lower_end, upper_end, arou
 use Rattle.forward.specs.Answers.{ask_verdict, stranded, forward_verdict, way, applies, row_of, ordinary_row, detour_row, used_part, handed}
 use Rattle.change.specs.Change.{breaks, change_verdict, set_link, mended_at, mended, changed}
 
-pub both_hold : (holds cases ≡ true) × (holds quayCases ≡ true)
+pub both_hold : (holds cases ≡ true) × (holds quay_cases ≡ true)
 unfolding number_of entry_row sum_to max_to some_to rows_to only_if row_with or_here first_to found_or refused_at refuse_at
     refuse_if firstly has up_to first_of total same sooner record_in with_record past_records standing past_entries link_row link_from
     link_in put_link net_of in_service touches other_end bad_nodes bad_links bad_root bad_depth bad_rule size_verdict bad_ends bad_mark unfit
@@ -43,8 +43,8 @@ unfolding number_of entry_row sum_to max_to some_to rows_to only_if row_with or_
     net_in nine room list_room list_said numbers_of said answer holds
     links parents harbour links_turned turned round alone root_entry bridge one two three one_turned three_turned right links_seven
     links_nine two_seven one_nine two_nine cases
-    links_with quayLinks quayParents quay_with quay by_number by_nearness quayRoot one_by_number one_by_nearness quayTwo quayThree four five none
-    table_with one_longer three_longer four_longer longer three_longest four_longest one_without links_loose quayCases
+    links_with quay_links quay_parents quay_with quay by_number by_nearness quay_root one_by_number one_by_nearness quay_two quay_three four five none
+    table_with one_longer three_longer four_longer longer three_longest four_longest one_without links_loose quay_cases
 both_hold = (refl, refl)
 
 -- each case as an equation, to be cited by what the promises say
@@ -61,5 +61,5 @@ each ((q gives a) ∷ rest) h =
 pub harbour-cases : Each cases
 harbour-cases = each cases both_hold.0
 
-pub quay-cases : Each quayCases
-quay-cases = each quayCases both_hold.1
+pub quay-cases : Each quay_cases
+quay-cases = each quay_cases both_hold.1

@@ -1,5 +1,6 @@
 // SCOPE's listing of what a file holds, printed by way of a lent buffer.
 #![tactic(auto)]
+
 ghost use Rattle.std.specs.Prelude.{◌≡◌, ◌≤◌, length};
 
 use archive::Header;

@@ -1,8 +1,8 @@
 -- The unprotected map on its definitions: bit x mod 64 of word x div 64 is 1 exactly where x is a node in state 2 or 3, the count is
 -- the number of ones, and the lowest is the lowest, 65,535 exactly where there is none. Assumes nothing.
-use mathlib.Core.Path.{◌≡◌, refl, sym, subst, ap, ◌∙◌}
-use mathlib.Core.Bool.{Bool, true, false, ◌&&◌}
-use mathlib.Core.List.{List, [], ◌∷◌}
+use mathlib.Core.Path.{◌≡◌, refl, sym, ap, ◌∙◌}
+use mathlib.Core.Bool.{Bool, true, false}
+use mathlib.Core.List.{[], ◌∷◌}
 use Prim.Native.Nat.{ℕ, zero, suc, ◌+◌, ◌*◌, ◌/◌, ◌%◌, ◌^◌, ◌<◌, ◌≤◌}
 use native.Mathlib.Nat.{pow-succ', div-one, div-div-eq-div-mul, not-suc-le-zero}
 use native.Mathlib.Omega.{arith}
@@ -10,15 +10,14 @@ use lib.Dec.{ltb}
 use lib.ListN.{length, get_or}
 use borrow.Author.Tests.{ltb-true, ltb-false}
 use Rattle.edition.specs.declared.Found.{Found}
-use Rattle.edition.specs.declared.Found.TheVariants.{Nothing, At}
 use Rattle.edition.specs.Limits.{no_node, node_limit, map_words, word_bits}
 use Rattle.rows.specs.Count.{sum_to, rows_to, row_with, only_if}
-use Rattle.rows.specs.First.{first_to, found_or}
+use Rattle.rows.specs.First.{found_or}
 use Rattle.rows.proofs.Best.{Lowest, nowhere, here, first-is}
 use Rattle.rows.proofs.Counting.{sum_cong}
 use Rattle.rows.proofs.Filling.{filled_at}
 use Rattle.rows.proofs.Records.{rows_length}
-use Rattle.rows.proofs.Tests.{clash, and_left}
+use Rattle.rows.proofs.Tests.{clash}
 use Rattle.network.specs.Network.{Net}
 use Rattle.map.specs.Map.{unprotected, word, map_of, count_unprotected, lowest}
 use Rattle.map.specs.Work.{packed}

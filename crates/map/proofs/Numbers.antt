@@ -1,6 +1,6 @@
 -- Which of SCOPE's numbers the map can give, and no other. Assumes nothing.
-use mathlib.Core.Path.{◌≡◌, refl}
-use mathlib.Core.List.{List, [], ◌∷◌, ◌++◌}
+use mathlib.Core.Path.{refl}
+use mathlib.Core.List.{List, [], ◌∷◌}
 use Prim.Native.Nat.{ℕ}
 use Rattle.edition.specs.declared.Why.TheVariants.{NoRoom}
 use Rattle.edition.specs.Refusals.{number_of}

@@ -7,9 +7,9 @@ use Rattle.network.specs.Network.{net_of}
 use Rattle.edition.proofs.Only.{One, one}
 
 -- `map::unprotected_map`
-pub one-unprotected-map :
+pub one_unprotected_map :
     (links parents : List ℕ) (search : Search) (words : List ℕ) →
     let g = net_of links parents search in
     One (map_answer g words)
     × One (map_row g words)
-one-unprotected-map links parents search words = (one _, one _)
+one_unprotected_map links parents search words = (one _, one _)

@@ -6,7 +6,7 @@ use Rattle.edition.specs.Limits.{no_link, link_limit, link_width}
 use Rattle.edition.specs.declared.Limits.{Limits}
 use Rattle.edition.specs.declared.Search.{Search}
 use Rattle.edition.specs.declared.Why.TheVariants.{NodeCount, LinkCount, BadRoot, BadDepth, BadRule, BadEnds, BadMark, BadParent}
-use Rattle.network.specs.Network.{links_in, link_in, put_link, front_links, past_links, net_of, is_parent, in_service, touches as touchesIt, other_end}
+use Rattle.network.specs.Network.{links_in, link_in, put_link, front_links, past_links, net_of, is_parent, in_service, touches, other_end}
 use Rattle.network.specs.Records.{bad_nodes, bad_links, bad_root, bad_depth, bad_rule, size_verdict, bad_ends, bad_mark, bad_parent}
 use Rattle.network.specs.declared.Link.{Link}
 use Rattle.rows.specs.First.{refuse_if, refuse_at}
@@ -14,47 +14,47 @@ use lib.ListN.{length, get_or}
 use Rattle.edition.proofs.Only.{One, one}
 
 -- `network::links_in`
-pub one-links_in : (links : List ℕ) → One (links_in links)
-one-links_in links = one _
+pub one_links_in : (links : List ℕ) → One (links_in links)
+one_links_in links = one _
 
 -- `network::first_links`
-pub one-first-links : (links : List ℕ) (m : ℕ) → One (front_links m links)
-one-first-links links m = one _
+pub one_first_links : (links : List ℕ) (m : ℕ) → One (front_links m links)
+one_first_links links m = one _
 
 -- `network::past_links`
-pub one-past-links : (links : List ℕ) (m : ℕ) → One (past_links m links)
-one-past-links links m = one _
+pub one_past_links : (links : List ℕ) (m : ℕ) → One (past_links m links)
+one_past_links links m = one _
 
 -- `network::numbers_of`
 pub one_numbers_of : (m : ℕ) → One (min m link_limit * link_width)
 one_numbers_of m = one _
 
 -- `network::link_at`
-pub one-link_at : (links : List ℕ) (e : ℕ) → One (link_in links e)
-one-link_at links e = one _
+pub one_link_at : (links : List ℕ) (e : ℕ) → One (link_in links e)
+one_link_at links e = one _
 
 -- `network::put_link`
 pub one_put_link : (links : List ℕ) (e : ℕ) (l : Link) → One (put_link links e l)
 one_put_link links e l = one _
 
 -- `network::parent_of`
-pub one-parent_of : (parents : List ℕ) (u : ℕ) → One (get_or parents u no_link)
-one-parent_of parents u = one _
+pub one_parent_of : (parents : List ℕ) (u : ℕ) → One (get_or parents u no_link)
+one_parent_of parents u = one _
 
 -- `network::is_parent`
-pub one-is-parent :
+pub one_is_parent :
     (parents : List ℕ) (e : ℕ) →
     let row = parents in
     One (is_parent (λ u. get_or row u no_link) (length row) e)
-one-is-parent parents e = one _
+one_is_parent parents e = one _
 
 -- `network::in_service`
 pub one_in_service : (l : Link) → One (in_service l)
 one_in_service l = one _
 
 -- `network::touches`
-pub one-touches : (l : Link) (u : ℕ) → One (touchesIt l u)
-one-touches l u = one _
+pub one_touches : (l : Link) (u : ℕ) → One (touches l u)
+one_touches l u = one _
 
 -- `network::other_end`
 pub one_other_end : (l : Link) (u : ℕ) → One (other_end l u)

@@ -5,7 +5,7 @@ ghost use Rattle.std.specs.Prelude.{◌≡◌, ◌*◌, min, length, get_or};
 ghost use Rattle.edition.specs.Limits.{no_link, link_limit, link_width};
 ghost use Rattle.edition.specs.declared.Why.TheVariants.{NodeCount, LinkCount, BadRoot, BadDepth, BadRule, BadEnds, BadMark, BadParent};
 ghost use Rattle.rows.specs.First.{first_to, refuse_if, refuse_at};
-ghost use Rattle.network.specs.Network.{links_in, link_in, put_link, front_links, past_links, net_of, is_parent, in_service, touches as touchesIt, other_end};
+ghost use Rattle.network.specs.Network.{links_in, link_in, put_link, front_links, past_links, net_of, is_parent, in_service, touches, other_end};
 ghost use Rattle.network.specs.Records.{bad_nodes, bad_links, bad_root, bad_depth, bad_rule, size_verdict, bad_ends, bad_mark, unfit, bad_parent};
 
 use edition::{Edition, Found, Limits, Memory, Search, Verdict, Why};
@@ -129,7 +129,7 @@ pub fn in_service(l: Link) -> bool
 // Whether u is an end of the link.
 #[tactic(auto, unfolding(crate::specs::Network::touches))]
 pub fn touches(l: Link, u: usize) -> bool
-    ensures { result ≡ touchesIt l u }
+    ensures { result ≡ touches l u }
 {
     if l.first as usize == u {
         return true;

@@ -6,8 +6,8 @@ use lib.Seq.{sets}
 use Rattle.edition.proofs.Only.{One, one}
 
 -- `numbers::two_at`
-pub one-two_at : (bytes : List ℕ) (at : ℕ) → One (number_in bytes at 2)
-one-two_at bytes at = one _
+pub one_two_at : (bytes : List ℕ) (at : ℕ) → One (number_in bytes at 2)
+one_two_at bytes at = one _
 
 -- `numbers::put_number`
 pub one_put_number : (bytes : List ℕ) (at k v : ℕ) → One (sets bytes at (bytes_of k v))

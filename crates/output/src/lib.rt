@@ -2,6 +2,7 @@
 // the next `at`; what does not fit has what waits written out first, so no caller has to know how much room is left. No
 // contract can speak of what was written out; these say what waits.
 #![tactic(auto)]
+
 ghost use Rattle.std.specs.Prelude.{◌≡◌, [], ◌∷◌, ◌+◌, ◌≤◌, ◌<◌, length};
 ghost use Rattle.std.proofs.Math.Seq.{paste};
 ghost use Rattle.io.specs.Digits.{hex_digit_ascii};
@@ -9,12 +10,19 @@ ghost use Rattle.output.specs.Text.{place_for, waits, Holds, hex_of, Numbered};
 
 use edition::Refusal;
 
+// The numbers of standard input, output and error.
+pub const STDIN: i32 = 0;
+
+pub const STDOUT: i32 = 1;
+
+pub const STDERR: i32 = 2;
+
 // Writes out what waits, so that nothing waits then. Whether all of it was written is not told.
 pub fn flush(out: &[u8], at: usize) -> usize
     ensures { result ≡ 0 }
 {
     if at <= out.len() {
-        io::write_all(libc::STDOUT_FILENO, &out[0..at]);
+        io::write_all(STDOUT, &out[0..at]);
     }
     0
 }
@@ -52,7 +60,7 @@ pub fn put(out: &mut [u8], at: usize, text: &[u8]) -> usize
         copy(out, place, text);
         return place + text.len();
     }
-    io::write_all(libc::STDOUT_FILENO, text);
+    io::write_all(STDOUT, text);
     0
 }
 
@@ -104,6 +112,7 @@ fn digit(n: u8) -> u8
 }
 
 // Prints a byte as two digits in hexadecimal, in lower case.
+#[tactic(auto, unfolding(crate::specs::Text::hex_of))]
 pub fn put_hex(out: &mut [u8], at: usize, byte: u8) -> usize
     ensures { Holds out.new result (waits out.old at (hex_of byte)) }
 {

@@ -2,6 +2,7 @@
 // answers is mixed into one number, so that no part of it is left out. The functions promise no more than that they do nothing
 // undefined and end.
 #![tactic(auto)]
+
 use archive::{Header, ReadAnswer, WriteAnswer};
 use edition::{Aim, Change, Edition, Entry, Measure, Memory, Refusal, Search, Swap, Verdict};
 use forward::{Applies, Ask};
@@ -22,7 +23,7 @@ fn nearer(root: u16, depth: u16) -> Search {
 
 // Two numbers as one.
 fn both(a: u64, b: u64) -> u64 {
-    std::num::wrapping_add_u64(a, b)
+    a.wrapping_add(b)
 }
 
 // A refusal as a number.

@@ -39,6 +39,7 @@ fn long(high: u16, low: u16) -> usize
 }
 
 // The head that these bytes are.
+#[tactic(auto, unfolding(crate::specs::Input::head_in, crate::specs::Input::long_in))]
 fn head_of(raw: &[u8]) -> Head
     ensures { result ≡ head_in raw.now }
 {
@@ -68,7 +69,7 @@ fn read_bytes(raw: &mut [u8], n: usize) -> bool {
     if raw.len() < n {
         return false;
     }
-    io::read_full(libc::STDIN_FILENO, &mut raw[0..n]) == n
+    io::read_full(output::STDIN, &mut raw[0..n]) == n
 }
 
 // Reads the head of the next case, by way of raw bytes.
@@ -82,6 +83,7 @@ pub fn read_head(raw: &mut [u8]) -> Heading
 }
 
 // Whether one of the three rows that op 7 lends is over its limit.
+#[tactic(auto, unfolding(crate::specs::Limits::over_rows))]
 fn is_over_rows(head: Head) -> bool
     ensures { result ≡ over_rows head }
 {
@@ -95,6 +97,7 @@ fn is_over_rows(head: Head) -> bool
 }
 
 // Whether one of the two rows that op 9 lends is over its limit.
+#[tactic(auto, unfolding(crate::specs::Limits::over_routes))]
 fn is_over_routes(head: Head) -> bool
     ensures { result ≡ over_routes head }
 {
@@ -105,6 +108,7 @@ fn is_over_routes(head: Head) -> bool
 }
 
 // Whether what words 4 and 5 lend is over its limit: the two rows of op 9, the room of any other.
+#[tactic(auto, unfolding(crate::specs::Limits::over_room))]
 fn is_over_room(head: Head) -> bool
     ensures { result ≡ over_room head }
 {
@@ -115,6 +119,7 @@ fn is_over_room(head: Head) -> bool
 }
 
 // The most that may follow the parents.
+#[tactic(auto, unfolding(crate::specs::Limits::most_rest))]
 fn most_rest(op: u16) -> usize
     ensures { result ≡ most_rest op }
 {
@@ -123,6 +128,7 @@ fn most_rest(op: u16) -> usize
 
 // Whether the head is over a limit. Those on parents and on links or bytes hold for every op, also where they are unused; that on
 // room for every op but 9, which has one for each of its two rows.
+#[tactic(auto, unfolding(crate::specs::Limits::is_over))]
 pub fn is_over(head: Head) -> bool
     ensures { result ≡ is_over head }
 {
@@ -143,6 +149,7 @@ pub fn is_over(head: Head) -> bool
 
 // Reads n words to the beginning of the row, by way of raw bytes. False, with the row as it was, where the input ends first
 // or one of the two is too short.
+#[tactic(auto, unfolding(crate::specs::Input::row_read))]
 fn read_words(raw: &mut [u8], row: &mut [u16], n: usize) -> bool
     ensures { row.new ≡ row_read result raw.new n row.old }
 {

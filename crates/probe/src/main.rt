@@ -1,6 +1,7 @@
 // The library from the outside: reads cases from standard input, and prints what the public functions answer and what they
 // leave in the lent rows.
 #![tactic(auto)]
+
 mod input;
 mod limits;
 mod ops;

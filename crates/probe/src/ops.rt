@@ -39,6 +39,7 @@ pub const ENTRY: u16 = 104;
 pub const NODE: u16 = 105;
 
 // Whether the op is in the probe's table.
+#[tactic(auto, unfolding(crate::specs::Limits::is_op))]
 pub fn is_op(op: u16) -> bool
     ensures { result ≡ is_op op }
 {
@@ -55,6 +56,7 @@ pub fn is_op(op: u16) -> bool
 }
 
 // Whether bytes follow the parents, not link numbers.
+#[tactic(auto, unfolding(crate::specs::Limits::takes_bytes))]
 pub fn takes_bytes(op: u16) -> bool
     ensures { result ≡ takes_bytes op }
 {

@@ -114,6 +114,7 @@ pub fn is_kept_bytes(row: &[u8], from: usize) -> bool
 }
 
 // Prints `rest kept` or `rest changed`.
+#[tactic(auto, unfolding(crate::specs::Rest::rest_text))]
 pub fn put(out: &mut [u8], at: usize, kept: bool) -> usize
     ensures { Holds out.new result (waits out.old at (rest_text kept)) }
 {

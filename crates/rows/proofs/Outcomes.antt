@@ -17,8 +17,8 @@ pub one_wide_at : (row : List ℕ) (i : ℕ) → One (get_or row i 0)
 one_wide_at row i = one _
 
 -- `rows::first`
-pub one-first : (row : List ℕ) (n : ℕ) → One (take n row)
-one-first row n = one _
+pub one_first : (row : List ℕ) (n : ℕ) → One (take n row)
+one_first row n = one _
 
 -- `rows::refuse_if`
 pub one_refuse_if : (bad : Bool) (why : Why) (place : ℕ) → One (refuse_if bad why place)
@@ -29,5 +29,5 @@ pub one_or_here : (found : Found) (passes : Bool) (place : ℕ) → One (or_here
 one_or_here found passes place = one _
 
 -- `rows::refused_at`
-pub one-refused_at : (why : Why) (found : Found) → One (refused_at why found)
-one-refused_at why found = one _
+pub one_refused_at : (why : Why) (found : Found) → One (refused_at why found)
+one_refused_at why found = one _

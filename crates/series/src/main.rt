@@ -6,10 +6,16 @@
 // is refused `refused N P`. A change that is taken prints `ok S`, a refused one `refused N P S`: S is the mix of all of the
 // links and then all of the entries, the room past the table among them.
 #![tactic(auto)]
+
 ghost use Rattle.std.specs.Prelude.{◌+◌, ◌*◌, ◌≤◌, ◌<◌, length};
 
 use edition::{Change, Memory, Refusal, Search, Verdict};
 use test_words::HEAD;
+
+// The numbers of standard input and output.
+const STDIN: i32 = 0;
+
+const STDOUT: i32 = 1;
 
 // Words of a change.
 const CHANGE: usize = 3;
@@ -76,13 +82,13 @@ fn fold_entries(entries: &[u64], start: u64) -> u64 {
 }
 
 fn print_text(text: &[u8]) {
-    io::write_all(libc::STDOUT_FILENO, text);
+    io::write_all(STDOUT, text);
 }
 
 // Prints a space and a number.
 fn print_number(n: u64) {
     print_text(b" ");
-    io::print_decimal(libc::STDOUT_FILENO, n);
+    io::print_decimal(STDOUT, n);
 }
 
 // Prints `refused N P`.
@@ -201,7 +207,7 @@ fn answered(raw: &[u8], links: &mut [u16], parents: &mut [u16], entries: &mut [u
 
 // Reads the input and prints its answer, by way of lent rows.
 fn run(raw: &mut [u8], links: &mut [u16], parents: &mut [u16], entries: &mut [u64]) {
-    let got = io::read_full(libc::STDIN_FILENO, raw);
+    let got = io::read_full(STDIN, raw);
     if !answered(&raw[0..got], links, parents, entries) {
         print_text(b"refused\n");
     }

@@ -20,8 +20,8 @@ pub one_check_network :
 one_check_network links parents search = one _
 
 -- `sound::handed_up`
-pub one-handed-up : (said : Checked) → One (handed_up said)
-one-handed-up said = one _
+pub one_handed_up : (said : Checked) → One (handed_up said)
+one_handed_up said = one _
 
 -- `sound::survey_network`
 pub one_survey_network :

@@ -8,12 +8,12 @@ use Rattle.survey.specs.Survey.{survey_verdict, survey_row, surveyed_verdict, su
 use Rattle.edition.proofs.Only.{One, one}
 
 -- `survey::nodes_in`
-pub one-nodes_in : (row : List ℕ) → One (nodes_in row)
-one-nodes_in row = one _
+pub one_nodes_in : (row : List ℕ) → One (nodes_in row)
+one_nodes_in row = one _
 
 -- `survey::known_at`
-pub one-known_at : (row : List ℕ) (x : ℕ) → One (known_at row x)
-one-known_at row x = one _
+pub one_known_at : (row : List ℕ) (x : ℕ) → One (known_at row x)
+one_known_at row x = one _
 
 -- `survey::distances`
 pub one_distances :

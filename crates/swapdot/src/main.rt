@@ -1,10 +1,13 @@
 // swapdot FILE [sum|incr|max]: draws the network of a file for Graphviz, with the swap links of one measure, sum where none is
 // named, as arrows from their lower ends.
 #![tactic(auto)]
+
 use archive::{Header, ReadAnswer};
 use desk::{Desk, Got};
 use edition::{Edition, Entry, Measure, Memory, Search};
 use network::Link;
+use std::io::Print;
+use std::rt::Files;
 
 // Bytes of the buffer that what is printed waits in: it holds the title and the longest line of every node and link, so that
 // all is printed at once and it is seen whether it was.
@@ -202,43 +205,50 @@ fn put_links(
 }
 
 // Draws an accepted file, and answers whether all of it was printed.
-fn draw(header: Header, links: &[u16], parents: &[u16], entries: &[u64], measure: Measure) -> bool {
+fn draw<R: Print>(
+    rt: &R,
+    header: Header,
+    links: &[u16],
+    parents: &[u16],
+    entries: &[u64],
+    measure: Measure,
+) -> bool {
     let mut out = [0u8; OUT];
     let held = rows::first(parents, header.nodes);
     let titled = put_title(&mut out, 0, header.search, measure);
     let nodes = put_nodes(&mut out, titled, entries, header.nodes, measure);
     let drawn = put_links(&mut out, nodes, links, held, entries, header.links, measure);
     let ended = output::put(&mut out, drawn, b"}\n");
-    desk::print(&out, ended)
+    desk::print(rt, &out, ended)
 }
 
 // Draws the file in the first bytes of a row, or says why it is refused.
-fn draw_file(name: &[u8], file: &[u8], measure: Measure) -> bool {
+fn draw_file<R: Print>(rt: &R, name: &[u8], file: &[u8], measure: Measure) -> bool {
     let mut links = [0u16; Memory::LINK_ROW];
     let mut parents = [0u16; Memory::NODES];
     let mut entries = [0u64; Memory::ENTRY_ROW];
     match archive::read(file, &mut links, &mut parents, &mut entries) {
-        ReadAnswer::Is(header) => draw(header, &links, &parents, &entries, measure),
+        ReadAnswer::Is(header) => draw(rt, header, &links, &parents, &entries, measure),
         ReadAnswer::Not(refusal) => desk::refused(name, refusal),
     }
 }
 
 // The same for the first bytes of a row.
-fn draw_bytes(name: &[u8], row: &[u8], size: usize, measure: Measure) -> bool {
+fn draw_bytes<R: Print>(rt: &R, name: &[u8], row: &[u8], size: usize, measure: Measure) -> bool {
     if !desk::file_fits(name, size) {
         return false;
     }
     if row.len() < size {
         return false;
     }
-    draw_file(name, &row[0..size], measure)
+    draw_file(rt, name, &row[0..size], measure)
 }
 
 // Draws the file of a name.
-fn run(name: &[u8], measure: Measure) -> bool {
+fn run<R: Files + Print>(rt: &R, name: &[u8], measure: Measure) -> bool {
     let mut row = [0u8; Desk::FILE + 1];
-    match desk::read(name, &mut row) {
-        Got::Is(size) => draw_bytes(name, &row, size, measure),
+    match desk::read(rt, name, &mut row) {
+        Got::Is(size) => draw_bytes(rt, name, &row, size, measure),
         Got::Not => false,
     }
 }
@@ -258,20 +268,20 @@ fn measure_of(word: &[u8]) -> Asked {
 }
 
 // Draws the file of a name by the measure of a word, which has no bytes where it is too long for any name.
-fn run_by(name: &[u8], word: &[u8]) -> bool {
+fn run_by<R: Files + Print>(rt: &R, name: &[u8], word: &[u8]) -> bool {
     if word.len() == 0 {
         return desk::complain(b"the measure", b"expected `sum`, `incr` or `max`");
     }
     let Asked::By(measure) = measure_of(word) else {
         return desk::complain(word, b"expected `sum`, `incr` or `max`");
     };
-    run(name, measure)
+    run(rt, name, measure)
 }
 
-fn main() {
+fn main(rt: HostRuntime) {
     let mut first = [0u8; Desk::NAME];
     let mut second = [0u8; Desk::NAME];
-    let words = os::arg_count();
+    let words = desk::arg_count(&rt);
     if words < 2 {
         desk::usage(b"swapdot FILE [sum|incr|max]");
         return;
@@ -280,14 +290,14 @@ fn main() {
         desk::usage(b"swapdot FILE [sum|incr|max]");
         return;
     }
-    let name = os::arg(1, &mut first);
-    let word = os::arg(2, &mut second);
+    let name = desk::arg(&rt, 1, &mut first);
+    let word = desk::arg(&rt, 2, &mut second);
     if !desk::is_name(b"FILE", name) {
         return;
     }
     if words == 2 {
-        run(&first[..name], Measure::Sum);
+        run(&rt, &first[..name], Measure::Sum);
         return;
     }
-    run_by(&first[..name], &second[..word]);
+    run_by(&rt, &first[..name], &second[..word]);
 }

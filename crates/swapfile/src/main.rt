@@ -1,9 +1,12 @@
 // swapfile TEXT FILE: makes the file of a network and depth that are written in plain text, or says why not.
 #![tactic(auto)]
+
 use archive::WriteAnswer;
 use desk::{Desk, Got};
 use edition::{Aim, Edition, Memory};
 use network::Link;
+use std::io::Print;
+use std::rt::Files;
 use text::{Cursor, Line, Word};
 
 // What the lines so far have said: how many nodes and links, the root and the depth as words, and what the last line lacked.
@@ -275,10 +278,17 @@ fn say_lack(name: &[u8], line: usize, told: Told) -> bool {
 }
 
 // Makes the file of the network, or says why it is refused.
-fn store(from: &[u8], to: &[u8], links: &[u16], parents: &[u16], aim: Aim) -> bool {
+fn store<R: Files + Print + Alloc>(
+    rt: &R,
+    from: &[u8],
+    to: &[u8],
+    links: &[u16],
+    parents: &[u16],
+    aim: Aim,
+) -> bool {
     let mut file = [0u8; Desk::FILE];
     match archive::write(links, parents, aim, &mut file) {
-        WriteAnswer::Is(size) => desk::write_new(to, &file, size, b"", 0),
+        WriteAnswer::Is(size) => desk::write_new(rt, to, &file, size, b"", 0),
         WriteAnswer::Not(refusal) => desk::refused(from, refusal),
     }
 }
@@ -292,7 +302,14 @@ fn depth_of(word: u32) -> u16 {
 }
 
 // Makes the file of what was told, where a root and a depth were.
-fn finish(from: &[u8], to: &[u8], told: Told, links: &[u16], parents: &[u16]) -> bool {
+fn finish<R: Files + Print + Alloc>(
+    rt: &R,
+    from: &[u8],
+    to: &[u8],
+    told: Told,
+    links: &[u16],
+    parents: &[u16],
+) -> bool {
     if Word::MOST < told.root {
         return desk::complain(from, b"expected a line `root NUMBER`");
     }
@@ -304,11 +321,18 @@ fn finish(from: &[u8], to: &[u8], told: Told, links: &[u16], parents: &[u16]) ->
         depth: depth_of(told.depth),
     };
     let held = network::first_links(links, told.links);
-    store(from, to, held, rows::first(parents, told.nodes), aim)
+    store(rt, from, to, held, rows::first(parents, told.nodes), aim)
 }
 
 // Takes the lines one after the other, and makes the file of what they told; says what the first lacks that lacks something.
-fn take_text(from: &[u8], to: &[u8], text: &[u8], links: &mut [u16], parents: &mut [u16]) -> bool {
+fn take_text<R: Files + Print + Alloc>(
+    rt: &R,
+    from: &[u8],
+    to: &[u8],
+    text: &[u8],
+    links: &mut [u16],
+    parents: &mut [u16],
+) -> bool {
     if !desk::text_fits(from, text) {
         return false;
     }
@@ -331,40 +355,46 @@ fn take_text(from: &[u8], to: &[u8], text: &[u8], links: &mut [u16], parents: &m
         }
         cursor = step.next;
     }
-    finish(from, to, told, links, parents)
+    finish(rt, from, to, told, links, parents)
 }
 
 // Makes the file of the first bytes of a row.
-fn take_bytes(from: &[u8], to: &[u8], row: &[u8], size: usize) -> bool {
+fn take_bytes<R: Files + Print + Alloc>(
+    rt: &R,
+    from: &[u8],
+    to: &[u8],
+    row: &[u8],
+    size: usize,
+) -> bool {
     if row.len() < size {
         return false;
     }
     let mut links = [0u16; Memory::LINK_ROW];
     let mut parents = [0u16; Memory::NODES];
-    take_text(from, to, &row[0..size], &mut links, &mut parents)
+    take_text(rt, from, to, &row[0..size], &mut links, &mut parents)
 }
 
 // Makes the file `to` of the text in the file `from`.
-fn run(from: &[u8], to: &[u8]) -> bool {
-    let mut row = [0u8; Desk::TEXT + 1];
-    match desk::read(from, &mut row) {
-        Got::Is(size) => take_bytes(from, to, &row, size),
+fn run<R: Files + Print + Alloc>(rt: &R, from: &[u8], to: &[u8]) -> bool {
+    let mut row = desk::text_room();
+    match desk::read(rt, from, &mut row) {
+        Got::Is(size) => take_bytes(rt, from, to, &row, size),
         Got::Not => false,
     }
 }
 
-fn main() {
-    if os::arg_count() != 3 {
+fn main(rt: HostRuntime) {
+    if desk::arg_count(&rt) != 3 {
         desk::usage(b"swapfile TEXT FILE");
         return;
     }
     let mut first = [0u8; Desk::NAME];
     let mut second = [0u8; Desk::NAME];
-    let from = os::arg(1, &mut first);
-    let to = os::arg(2, &mut second);
+    let from = desk::arg(&rt, 1, &mut first);
+    let to = desk::arg(&rt, 2, &mut second);
     if desk::is_name(b"TEXT", from) {
         if desk::is_name(b"FILE", to) {
-            run(&first[..from], &second[..to]);
+            run(&rt, &first[..from], &second[..to]);
         }
     }
 }

@@ -2,12 +2,15 @@
 // and lists the entries that changed, old and new. All or nothing: the first correction that is refused is said, and there is
 // no file NEW then.
 #![tactic(auto)]
+
 ghost use Rattle.std.specs.Prelude.{◌≤◌};
 ghost use Rattle.text.specs.Words.{most_number};
 
 use archive::{Header, ReadAnswer, WriteAnswer};
 use desk::{Desk, Got};
 use edition::{Change, Entry, Memory, Search, Swap, Verdict};
+use std::io::Print;
+use std::rt::Files;
 use text::{Cursor, Line, Word};
 
 // Bytes of the buffer that what is printed waits in: it holds the two longest lines of every node, 73 bytes each, so that
@@ -161,7 +164,8 @@ fn put_all(out: &mut [u8], parents: &[u16], old: &[u64], new: &[u64]) -> usize {
 }
 
 // Makes the file of the network and prints the first bytes of `out`.
-fn store(
+fn store<R: Files + Print + Alloc>(
+    rt: &R,
     to: &[u8],
     links: &[u16],
     parents: &[u16],
@@ -171,13 +175,14 @@ fn store(
 ) -> bool {
     let mut file = [0u8; Desk::FILE];
     match archive::write(links, parents, search.aim(), &mut file) {
-        WriteAnswer::Is(size) => desk::write_new(to, &file, size, out, waits),
+        WriteAnswer::Is(size) => desk::write_new(rt, to, &file, size, out, waits),
         WriteAnswer::Not(refusal) => desk::refused(to, refusal),
     }
 }
 
 // Makes the corrections in the rows and the file of what they are then, and lists the entries that changed.
-fn correct(
+fn correct<R: Files + Print + Alloc>(
+    rt: &R,
     by: &[u8],
     to: &[u8],
     text: &[u8],
@@ -192,11 +197,12 @@ fn correct(
     }
     let mut out = [0u8; OUT];
     let waits = put_all(&mut out, parents, old, entries);
-    store(to, links, parents, search, &out, waits)
+    store(rt, to, links, parents, search, &out, waits)
 }
 
 // The same, with as much of the rows as the header says.
-fn correct_part(
+fn correct_part<R: Files + Print + Alloc>(
+    rt: &R,
     by: &[u8],
     to: &[u8],
     text: &[u8],
@@ -211,6 +217,7 @@ fn correct_part(
         return false;
     }
     correct(
+        rt,
         by,
         to,
         text,
@@ -223,13 +230,22 @@ fn correct_part(
 }
 
 // Reads the file once more, for its entries as they were, and corrects what is read.
-fn correct_file(from: &[u8], by: &[u8], to: &[u8], file: &[u8], text: &[u8], old: &[u64]) -> bool {
+fn correct_file<R: Files + Print + Alloc>(
+    rt: &R,
+    from: &[u8],
+    by: &[u8],
+    to: &[u8],
+    file: &[u8],
+    text: &[u8],
+    old: &[u64],
+) -> bool {
     let mut links = [0u16; Memory::LINK_ROW];
     let mut parents = [0u16; Memory::NODES];
     let mut entries = [0u64; Memory::ENTRY_ROW];
     match archive::read(file, &mut links, &mut parents, &mut entries) {
         ReadAnswer::Is(header) => {
             correct_part(
+                rt,
                 by,
                 to,
                 text,
@@ -245,18 +261,26 @@ fn correct_file(from: &[u8], by: &[u8], to: &[u8], file: &[u8], text: &[u8], old
 }
 
 // Reads the file's entries as they are, and corrects it.
-fn correct_old(from: &[u8], by: &[u8], to: &[u8], file: &[u8], text: &[u8]) -> bool {
+fn correct_old<R: Files + Print + Alloc>(
+    rt: &R,
+    from: &[u8],
+    by: &[u8],
+    to: &[u8],
+    file: &[u8],
+    text: &[u8],
+) -> bool {
     let mut links = [0u16; Memory::LINK_ROW];
     let mut parents = [0u16; Memory::NODES];
     let mut old = [0u64; Memory::ENTRY_ROW];
     match archive::read(file, &mut links, &mut parents, &mut old) {
-        ReadAnswer::Is(_) => correct_file(from, by, to, file, text, &old),
+        ReadAnswer::Is(_) => correct_file(rt, from, by, to, file, text, &old),
         ReadAnswer::Not(refusal) => desk::refused(from, refusal),
     }
 }
 
 // Corrects the file in the first bytes of a row by the text in the first bytes of another.
-fn correct_bytes(
+fn correct_bytes<R: Files + Print + Alloc>(
+    rt: &R,
     from: &[u8],
     by: &[u8],
     to: &[u8],
@@ -274,42 +298,49 @@ fn correct_bytes(
     if text.len() < long {
         return false;
     }
-    correct_old(from, by, to, &file[0..size], &text[0..long])
+    correct_old(rt, from, by, to, &file[0..size], &text[0..long])
 }
 
 // Reads the corrections, and makes them in the file.
-fn with_text(from: &[u8], by: &[u8], to: &[u8], file: &[u8], size: usize) -> bool {
-    let mut text = [0u8; Desk::TEXT + 1];
-    match desk::read(by, &mut text) {
-        Got::Is(long) => correct_bytes(from, by, to, file, size, &text, long),
+fn with_text<R: Files + Print + Alloc>(
+    rt: &R,
+    from: &[u8],
+    by: &[u8],
+    to: &[u8],
+    file: &[u8],
+    size: usize,
+) -> bool {
+    let mut text = desk::text_room();
+    match desk::read(rt, by, &mut text) {
+        Got::Is(long) => correct_bytes(rt, from, by, to, file, size, &text, long),
         Got::Not => false,
     }
 }
 
 // Makes the file `to` of the file `from`, corrected by the text in the file `by`.
-fn run(from: &[u8], by: &[u8], to: &[u8]) -> bool {
+fn run<R: Files + Print + Alloc>(rt: &R, from: &[u8], by: &[u8], to: &[u8]) -> bool {
     let mut file = [0u8; Desk::FILE + 1];
-    match desk::read(from, &mut file) {
-        Got::Is(size) => with_text(from, by, to, &file, size),
+    match desk::read(rt, from, &mut file) {
+        Got::Is(size) => with_text(rt, from, by, to, &file, size),
         Got::Not => false,
     }
 }
 
-fn main() {
-    if os::arg_count() != 4 {
+fn main(rt: HostRuntime) {
+    if desk::arg_count(&rt) != 4 {
         desk::usage(b"swapfix FILE CORRECTIONS NEW");
         return;
     }
     let mut first = [0u8; Desk::NAME];
     let mut second = [0u8; Desk::NAME];
     let mut third = [0u8; Desk::NAME];
-    let from = os::arg(1, &mut first);
-    let by = os::arg(2, &mut second);
-    let to = os::arg(3, &mut third);
+    let from = desk::arg(&rt, 1, &mut first);
+    let by = desk::arg(&rt, 2, &mut second);
+    let to = desk::arg(&rt, 3, &mut third);
     if desk::is_name(b"FILE", from) {
         if desk::is_name(b"CORRECTIONS", by) {
             if desk::is_name(b"NEW", to) {
-                run(&first[..from], &second[..by], &third[..to]);
+                run(&rt, &first[..from], &second[..by], &third[..to]);
             }
         }
     }

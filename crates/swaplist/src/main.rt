@@ -2,6 +2,7 @@
 // `refused N P` where the file is not accepted. A file over the longest that is listed is refusal 20 at place 0, before any
 // other check.
 #![tactic(auto)]
+
 use archive::{Header, ReadAnswer};
 use edition::{Memory, Refusal, Why};
 use map::MapAnswer;
@@ -60,12 +61,12 @@ fn answer(row: &[u8], size: usize, out: &mut [u8]) -> usize {
 // Prints the first bytes of a row; where they cannot all be written, that is said on standard error.
 fn print(row: &[u8], size: usize) {
     if size <= row.len() {
-        if io::write_all(libc::STDOUT_FILENO, &row[0..size]) {
+        if io::write_all(output::STDOUT, &row[0..size]) {
             return;
         }
     }
     io::write_all(
-        libc::STDERR_FILENO,
+        output::STDERR,
         b"standard output: the listing could not be written\n",
     );
 }
@@ -74,7 +75,7 @@ fn print(row: &[u8], size: usize) {
 fn main() {
     let mut row = [0u8; listing::LISTED_BYTES + 1];
     let mut out = [0u8; OUT];
-    let size = io::read_full(libc::STDIN_FILENO, &mut row);
+    let size = io::read_full(output::STDIN, &mut row);
     let waits = answer(&row, size, &mut out);
     print(&out, waits);
 }

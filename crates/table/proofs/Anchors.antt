@@ -1,7 +1,6 @@
 -- Anchors: a node is its own exactly where it is asked for, and where two nodes have one anchor, each node asked for has both below it
 -- or none of them. Assumes nothing.
 use Rattle.std.proofs.Common.{◌≡◌, ℕ, ◌<◌, Bool, true, false, eqb, List, [], ◌∷◌, sym, refl, ap, ◌∙◌, subst, arith, eqb-true}
-use Rattle.edition.specs.declared.Found.{Found}
 use Rattle.edition.specs.declared.Found.TheVariants.{Nothing, At}
 use Rattle.rows.specs.Lists.{has}
 use Rattle.rows.proofs.Tests.{clash, either, or_right, not_so}

@@ -1,14 +1,14 @@
 -- What a standing swap link costs by incr, looked up in the row of links and the survey. Assumes nothing.
-use Rattle.std.proofs.Common.{◌≡◌, ℕ, ◌-◌, ◌*◌, ◌^◌, ◌<◌, ◌≤◌, Bool, true, false, ◌&&◌, ◌||◌, eqb, ltb, List, get_or, sym, refl, ap, ◌∙◌, subst, arith, ltb-false, ltb-true, eq-eqb, ne_eqb, eqb-true}
+use Rattle.std.proofs.Common.{◌≡◌, ℕ, ◌-◌, ◌*◌, ◌^◌, ◌<◌, ◌≤◌, Bool, true, false, ltb, List, get_or, refl, ap, ◌∙◌, subst, arith, ltb-false, ltb-true}
 use Rattle.edition.specs.declared.Search.{Search}
 use Rattle.edition.specs.Limits.{longest}
 use Rattle.network.specs.declared.Link.{Link}
 use Rattle.network.specs.Network.{Net, net_of, links_in, link_in, link_from}
 use Rattle.network.proofs.Keeping.{link-none}
 use Rattle.network.proofs.Whole.{length_held}
-use Rattle.tree.specs.Tree.{tree_of, dist}
+use Rattle.tree.specs.Tree.{tree_of}
 use Rattle.survey.specs.declared.Known.{Known}
-use Rattle.survey.specs.Row.{nodes_in, known_at}
+use Rattle.survey.specs.Row.{known_at}
 use Rattle.sound.specs.Surveyed.{Surveyed}
 use Rattle.sound.proofs.Holding.{root_in, first_in, second_in}
 use Rattle.swap.specs.Work.{through}

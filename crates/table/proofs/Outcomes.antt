@@ -1,5 +1,5 @@
 -- Two outcomes that a promise allows are equal: one theorem a public function, in the words of its contract. Assumes nothing.
-use Rattle.std.proofs.Common.{ℕ, ◌+◌, List, ◌++◌, length}
+use Rattle.std.proofs.Common.{ℕ, List, ◌++◌, length}
 use Rattle.edition.specs.declared.Search.{Search}
 use Rattle.entries.specs.Row.{past_entries}
 use Rattle.network.specs.Network.{net_of}
@@ -57,15 +57,15 @@ pub one_check_entry :
 one_check_entry links parents search x = one _
 
 -- `table::entry_surveyed`
-pub one-entry-surveyed :
+pub one_entry_surveyed :
     (links parents : List ℕ) (search : Search) (survey : List ℕ) (x : ℕ) →
     let g = net_of links parents search in
     One (entry g x)
-one-entry-surveyed links parents search survey x = one _
+one_entry_surveyed links parents search survey x = one _
 
 -- `table::entry_of`
-pub one-entry_of :
+pub one_entry_of :
     (links parents : List ℕ) (search : Search) (x : ℕ) →
     let g = net_of links parents search in
     One (entry_answer g x)
-one-entry_of links parents search x = one _
+one_entry_of links parents search x = one _

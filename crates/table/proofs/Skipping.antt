@@ -5,7 +5,6 @@ use borrow.Author.Tests.{not-false}
 use Rattle.edition.specs.declared.Search.{Search}
 use Rattle.edition.specs.Limits.{longest, no_link}
 use Rattle.edition.specs.Entries.{first_end, second_end}
-use Rattle.rows.specs.Lists.{has}
 use Rattle.rows.proofs.Tests.{not_so, and_none}
 use Rattle.network.specs.declared.Link.{Link}
 use Rattle.network.specs.Network.{Net, net_of, link_in, links_in, in_service, other_end}

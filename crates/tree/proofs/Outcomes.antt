@@ -16,29 +16,29 @@ pub one_up :
 one_up links parents search u = one _
 
 -- `tree::rise`
-pub one-rise :
+pub one_rise :
     (links parents : List ℕ) (search : Search) (u : ℕ) →
     let g = net_of links parents search in
     One ((tree_of g).rise u)
-one-rise links parents search u = one _
+one_rise links parents search u = one _
 
 -- `tree::Climb::begin`
-pub one-climb_begin : (u : ℕ) → One (begun u)
-one-climb_begin u = one _
+pub one_climb_begin : (u : ℕ) → One (begun u)
+one_climb_begin u = one _
 
 -- `tree::Climb::step`
-pub one-climb-step :
+pub one_climb_step :
     (self : Climb) (links parents : List ℕ) (search : Search) →
     let g = net_of links parents search in
     One (stepped (tree_of g) self)
-one-climb-step self links parents search = one _
+one_climb_step self links parents search = one _
 
 -- `tree::has_route`
-pub one-has-route :
+pub one_has_route :
     (links parents : List ℕ) (search : Search) (u : ℕ) →
     let g = net_of links parents search in
     One (has_route (tree_of g) u)
-one-has-route links parents search u = one _
+one_has_route links parents search u = one _
 
 -- `tree::check_row`
 pub one_check_row : (n room : ℕ) → One (room_verdict n room)
@@ -60,19 +60,19 @@ pub one_check_way :
 one_check_way links parents search u = one _
 
 -- `tree::route`
-pub one-route :
+pub one_route :
     (links parents : List ℕ) (search : Search) (u : ℕ) (row : List ℕ) →
     let g = net_of links parents search in
     One (route_answer g u row)
     × One (route_row g u row)
-one-route links parents search u row = (one _, one _)
+one_route links parents search u row = (one _, one _)
 
 -- `tree::meet_of`
-pub one-meet_of :
+pub one_meet_of :
     (links parents : List ℕ) (search : Search) (u z : ℕ) →
     let g = net_of links parents search in
     One (meet_answer g u z)
-one-meet_of links parents search u z = one _
+one_meet_of links parents search u z = one _
 
 -- `tree::tree_distance`
 pub one_tree_distance :

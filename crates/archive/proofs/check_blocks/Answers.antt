@@ -1,7 +1,6 @@
 -- `archive::check_blocks` meets its contract. Assumes nothing.
 use mathlib.Core.Path.{refl}
 use native.Mathlib.Omega.{arith}
-use Prim.Native.Nat.{◌-◌}
 use Rattle.archive.proofs.WriterAnswer.{few_blocks, count-is, count-end, blocks_room}
 use Rattle.archive.proofs.BlockChecks.{passed_all, refused-here}
 use Rattle.archive.proofs.check_blocks.Goals as goal

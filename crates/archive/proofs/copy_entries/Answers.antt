@@ -1,5 +1,4 @@
 -- `archive::copy_entries` meets its contract. Assumes nothing.
-use Prim.Native.Nat.{◌-◌}
 use Rattle.archive.proofs.Copying.{copy_start, copy_more}
 use Rattle.archive.proofs.copy_entries.Goals as goal
 

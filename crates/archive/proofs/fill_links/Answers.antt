@@ -1,5 +1,4 @@
 -- `archive::fill_links` meets its contract. Assumes nothing.
-use Prim.Native.Nat.{◌-◌}
 use Rattle.archive.proofs.Holding.{linking_start, linking_more}
 use Rattle.archive.proofs.fill_links.Goals as goal
 

@@ -1,5 +1,4 @@
 -- `archive::fill_parents` meets its contract. Assumes nothing.
-use Prim.Native.Nat.{◌-◌}
 use Rattle.rows.proofs.Filling.{filled-start, filled_more}
 use Rattle.archive.proofs.Comparing.{parent_number_lem}
 use Rattle.archive.proofs.fill_parents.Goals as goal

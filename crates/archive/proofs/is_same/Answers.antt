@@ -1,5 +1,4 @@
 -- `archive::is_same` meets its contract. Assumes nothing.
-use Prim.Native.Nat.{◌-◌}
 use Rattle.archive.proofs.Comparing.{not_alike, all_alike}
 use Rattle.archive.proofs.is_same.Goals as goal
 

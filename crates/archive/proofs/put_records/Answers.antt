@@ -1,5 +1,4 @@
 -- `archive::put_records` meets its contract. Assumes nothing.
-use Prim.Native.Nat.{◌-◌}
 use Rattle.archive.proofs.Laying.{record-size, laying_start, laying_more, laying_end}
 use Rattle.archive.proofs.put_records.Goals as goal
 

@@ -1,5 +1,4 @@
 -- `archive::seek_bad_entry` meets its contract. Assumes nothing.
-use Prim.Native.Nat.{◌-◌}
 use Rattle.rows.proofs.Seeking.{seek_start, seek_more}
 use Rattle.archive.proofs.seek_bad_entry.Goals as goal
 

@@ -2,7 +2,6 @@
 use Prim.Native.Nat.{◌-◌, ◌*◌, ◌+◌}
 use Rattle.archive.proofs.WriterLoop.{filing_start, filing_room, filing_more, filing_end}
 use native.Mathlib.Omega.{arith}
-use Rattle.network.specs.Network.{links_in}
 use Rattle.archive.proofs.WriterAnswer.{few_blocks, file_room, rows_sized, nodes-small, links-small, count-is, count-end, file_is}
 use Rattle.edition.specs.Stored.{block_bytes}
 use Rattle.archive.proofs.write_blocks.Goals as goal

@@ -1,5 +1,4 @@
 -- `block::check_of` meets its contract. Assumes nothing.
-use Prim.Native.Nat.{◌-◌}
 use Rattle.block.proofs.Summing.{sum-start, sum_more, sum-end}
 use borrow.Author.Rules.{rules}
 use Rattle.block.proofs.check_of.Goals as goal

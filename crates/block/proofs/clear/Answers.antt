@@ -1,6 +1,5 @@
 -- `block::clear` meets its contract. Assumes nothing.
 use Rattle.block.proofs.Sealing.{clear_more, clear_end}
-use Prim.Native.Nat.{◌-◌}
 use Rattle.block.proofs.clear.Goals as goal
 
 pub loop-j-preserved : goal.loop-j-preserved

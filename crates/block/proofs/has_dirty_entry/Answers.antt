@@ -1,5 +1,4 @@
 -- `block::has_dirty_entry` meets its contract. Assumes nothing.
-use Prim.Native.Nat.{◌-◌}
 use Rattle.block.proofs.Clean.{clean_start, clean_more, clean_found}
 use mathlib.Core.Path.{sym, ◌∙◌}
 use Rattle.block.proofs.has_dirty_entry.Goals as goal

@@ -1,7 +1,6 @@
 -- `block::is_dirty` meets its contract. Assumes nothing.
 use borrow.Author.Tests.{eq-eqb, ne_eqb}
 use Rattle.block.proofs.Clean.{clean_start, clean_more, clean_found}
-use Prim.Native.Nat.{◌-◌}
 use mathlib.Core.Path.{ap}
 use mathlib.Core.Bool.{not}
 use Rattle.block.specs.Bytes.{dirty}

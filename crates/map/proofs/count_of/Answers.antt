@@ -1,5 +1,4 @@
 -- `map::count_of` meets its contract. Assumes nothing.
-use Prim.Native.Nat.{◌-◌}
 use Rattle.map.proofs.Wording.{counting_start, counting_more, counting_end}
 use Rattle.map.proofs.count_of.Goals as goal
 

@@ -1,5 +1,4 @@
 -- `map::fill_words` meets its contract. Assumes nothing.
-use Prim.Native.Nat.{◌-◌}
 use Rattle.rows.proofs.Filling.{filled-start, filled_more}
 use Rattle.map.proofs.fill_words.Goals as goal
 

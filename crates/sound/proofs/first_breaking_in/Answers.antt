@@ -1,7 +1,6 @@
 -- `sound::first_breaking_in` meets its contract. Assumes nothing.
 use Rattle.rows.proofs.Seeking.{seek_start, seek_more}
 use mathlib.Core.Path.{◌∙◌, ap}
-use Prim.Native.Nat.{◌-◌}
 use native.Mathlib.Omega.{arith}
 use Rattle.sound.specs.Work.{breaks_in}
 use Rattle.sound.proofs.first_breaking_in.Goals as goal

@@ -1,5 +1,4 @@
 -- `survey::climb_free` meets its contract. Assumes nothing.
-use Prim.Native.Nat.{◌-◌}
 use Rattle.network.specs.Network.{net_of}
 use Rattle.tree.specs.Tree.{tree_of}
 use Rattle.survey.proofs.Free.{climbing_start, climbing_more, climbing_found, climbing_none}

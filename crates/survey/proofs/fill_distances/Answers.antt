@@ -1,5 +1,4 @@
 -- `survey::fill_distances` meets its contract. Assumes nothing.
-use Prim.Native.Nat.{◌-◌}
 use Rattle.network.specs.Network.{net_of}
 use Rattle.tree.specs.Tree.{tree_of}
 use Rattle.survey.proofs.Down.{down-start, down-end, down_next, down-more}

@@ -1,6 +1,5 @@
 -- `survey::first_stray` meets its contract. Assumes nothing.
 use mathlib.Core.Path.{ap}
-use Prim.Native.Nat.{◌-◌}
 use lib.Dec.{leb}
 use lib.ListN.{length}
 use Rattle.rows.proofs.Seeking.{seek_start, seek_more}

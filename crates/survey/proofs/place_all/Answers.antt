@@ -1,5 +1,4 @@
 -- `survey::place_all` meets its contract. Assumes nothing.
-use Prim.Native.Nat.{◌-◌}
 use Rattle.network.specs.Network.{net_of}
 use Rattle.tree.specs.Tree.{tree_of}
 use Rattle.survey.proofs.Whole.{turning_start, turning_end, turning_lost, turning_ready, turning_more}

@@ -1,5 +1,5 @@
 -- The loop of `survey::settle`: what it keeps and what falls. Assumes nothing.
-use Prim.Native.Nat.{ℕ, ◌-◌}
+use Prim.Native.Nat.{ℕ}
 use Rattle.tree.specs.Tree.{Tree}
 use Rattle.survey.specs.Work.{Ready}
 use Rattle.survey.proofs.Settling.{Settling}

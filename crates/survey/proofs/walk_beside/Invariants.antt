@@ -3,7 +3,7 @@ use Rattle.survey.proofs.Holding.{Walk}
 use Rattle.survey.specs.Work.{Basis, Held, Split, Summed, Sided}
 use Rattle.tree.specs.Tree.{Tree}
 use mathlib.Core.List.{List}
-use Prim.Native.Nat.{ℕ, ◌-◌}
+use Prim.Native.Nat.{ℕ}
 use Rattle.survey.proofs.walk_beside.Given as goal
 
 abbrev pub invariant-loop-i : goal.invariant-loop-i

@@ -1,7 +1,6 @@
 -- `survey::walk_down` meets its contract. Assumes nothing.
 use Rattle.network.specs.Network.{net_of}
 use Rattle.tree.specs.Tree.{tree_of}
-use Prim.Native.Nat.{◌-◌}
 use Rattle.survey.proofs.Beginning.{begin_end, begin_under, begin_more}
 use Rattle.survey.proofs.walk_down.Goals as goal
 

@@ -1,5 +1,4 @@
 -- `survey::walk_turns` meets its contract. Assumes nothing.
-use Prim.Native.Nat.{◌-◌}
 use Rattle.survey.proofs.Turning.{turn-start, turn_end, turn-node, turn_up, turn-fits, turn_more}
 use Rattle.survey.proofs.walk_turns.Goals as goal
 

@@ -3,7 +3,7 @@ use Rattle.survey.proofs.Holding.{Walk}
 use Rattle.survey.specs.Work.{Basis, Held, Begun}
 use Rattle.tree.specs.Tree.{Tree}
 use mathlib.Core.List.{List}
-use Prim.Native.Nat.{ℕ, ◌-◌}
+use Prim.Native.Nat.{ℕ}
 use Rattle.survey.proofs.Raising.{Raised}
 use Rattle.survey.proofs.walk_up.Given as goal
 

@@ -1,6 +1,6 @@
 -- `table::carry_entry` meets its contract. Assumes nothing.
 use Rattle.table.proofs.Carrying.{with_none, with_all}
-use Rattle.std.proofs.Common.{◌-◌, arith}
+use Rattle.std.proofs.Common.{arith}
 use Rattle.table.proofs.carry_entry.Goals as goal
 
 pub loop-e-init : goal.loop-e-init

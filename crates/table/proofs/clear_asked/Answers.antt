@@ -1,6 +1,5 @@
 -- `table::clear_asked` meets its contract. Assumes nothing.
 use Rattle.table.proofs.Searching.{clear_more}
-use Rattle.std.proofs.Common.{◌-◌}
 use Rattle.table.proofs.clear_asked.Goals as goal
 
 pub loop-x-preserved : goal.loop-x-preserved

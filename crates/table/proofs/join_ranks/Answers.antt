@@ -1,6 +1,5 @@
 -- `table::join_ranks` meets its contract. Assumes nothing.
 use Rattle.table.proofs.Joining.{turning_start, turning_up, turning_more, turning_end}
-use Rattle.std.proofs.Common.{◌-◌}
 use Rattle.table.proofs.join_ranks.Goals as goal
 
 pub loop-u-init : goal.loop-u-init

@@ -1,7 +1,5 @@
 -- `table::mark_ranks` meets its contract. Assumes nothing.
-use Rattle.table.specs.Work.{first_rank}
 use Rattle.rows.proofs.Filling.{filled-start, filled_more}
-use Rattle.std.proofs.Common.{◌-◌}
 use Rattle.table.proofs.mark_ranks.Goals as goal
 
 pub loop-x-init : goal.loop-x-init

@@ -1,6 +1,6 @@
 -- `table::offer_links` meets its contract. Assumes nothing.
 use Rattle.table.proofs.Searching.{to_more, to_all, still-searching}
-use Rattle.std.proofs.Common.{◌-◌, arith}
+use Rattle.std.proofs.Common.{arith}
 use Rattle.table.proofs.offer_links.Goals as goal
 
 pub loop-e-preserved : goal.loop-e-preserved

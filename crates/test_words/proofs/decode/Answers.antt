@@ -1,5 +1,4 @@
 -- `test_words::decode` meets its contract. Assumes nothing.
-use Prim.Native.Nat.{◌-◌}
 use native.Mathlib.Omega.{arith}
 use Rattle.rows.proofs.Filling.{filled-start, filled_more, filled-length}
 use Rattle.test_words.proofs.Reading.{words_filled}

@@ -1,6 +1,5 @@
 -- `text::is_same` meets its contract. Assumes nothing.
 use Rattle.text.proofs.Scanning.{match_more, match_not, match_all}
-use Prim.Native.Nat.{◌-◌}
 use Rattle.text.proofs.is_same.Goals as goal
 
 pub returns-then-byte_at : goal.returns-then-byte_at

@@ -1,6 +1,5 @@
 -- `text::is_stray` meets its contract. Assumes nothing.
 use native.Mathlib.Omega.{arith}
-use Rattle.text.specs.Words.{byte_at}
 use Rattle.text.proofs.Scanning.{other_within}
 use Rattle.text.proofs.is_stray.Goals as goal
 

@@ -2,7 +2,6 @@
 use Rattle.text.proofs.Scanning.{scan_more, scan_found, scan_none}
 use borrow.Author.Tests.{eq-eqb, ne_eqb}
 use mathlib.Core.Path.{sym, ◌∙◌}
-use Prim.Native.Nat.{◌-◌}
 use Rattle.text.specs.Words.{newline, byte_at, line_end}
 use Rattle.text.proofs.line_end.Goals as goal
 

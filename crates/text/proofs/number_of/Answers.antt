@@ -1,7 +1,6 @@
 -- `text::number_of` meets its contract. Assumes nothing.
 use Rattle.text.proofs.Scanning.{spell_more, spell_done}
 use mathlib.Core.Path.{ap, ◌∙◌}
-use Prim.Native.Nat.{◌-◌}
 use Rattle.text.specs.Words.{with_digit}
 use Rattle.text.proofs.number_of.Goals as goal
 

@@ -1,8 +1,6 @@
 -- `text::stray_from` meets its contract. Assumes nothing.
 use Rattle.text.proofs.Scanning.{scan_more, scan_found, scan_none}
 use mathlib.Core.Path.{sym, ◌∙◌}
-use Prim.Native.Nat.{◌-◌}
-use Rattle.text.specs.Words.{is_stray}
 use Rattle.text.proofs.stray_from.Goals as goal
 
 pub returns-then-is_stray : goal.returns-then-is_stray

@@ -2,8 +2,7 @@
 use Rattle.text.proofs.Scanning.{scan_more, scan_found, scan_none}
 use mathlib.Core.Path.{sym, ap, ◌∙◌}
 use mathlib.Core.Bool.{not}
-use Prim.Native.Nat.{◌-◌}
-use Rattle.text.specs.Words.{byte_at, is_blank, word_from}
+use Rattle.text.specs.Words.{is_blank, word_from}
 use Rattle.text.proofs.word_from.Goals as goal
 
 pub returns-then-not-is_blank : goal.returns-then-not-is_blank

@@ -1,8 +1,7 @@
 -- `text::word_to` meets its contract. Assumes nothing.
 use Rattle.text.proofs.Scanning.{scan_more, scan_found, scan_none}
 use mathlib.Core.Path.{sym, ap, ◌∙◌}
-use Prim.Native.Nat.{◌-◌}
-use Rattle.text.specs.Words.{byte_at, is_past, word_to}
+use Rattle.text.specs.Words.{is_past, word_to}
 use Rattle.text.proofs.word_to.Goals as goal
 
 pub returns-then-is_past : goal.returns-then-is_past

@@ -1,6 +1,5 @@
 -- `tree::fill_distances` meets its contract. Assumes nothing.
 use Rattle.rows.proofs.Filling.{filled-start, filled_more}
-use Rattle.std.proofs.Common.{◌-◌}
 use Rattle.tree.proofs.fill_distances.Goals as goal
 
 pub loop-u-init : goal.loop-u-init

@@ -1,5 +1,5 @@
 -- `tree::has_route` meets its contract. Assumes nothing.
-use Rattle.std.proofs.Common.{◌-◌, eq-eqb, ne_eqb}
+use Rattle.std.proofs.Common.{eq-eqb, ne_eqb}
 use Rattle.tree.proofs.Climbing.{finding_more, finding_found, finding_none}
 use Rattle.network.specs.Network.{net_of}
 use Rattle.tree.specs.Tree.{tree_of, has_route}

@@ -1,6 +1,6 @@
 -- `tree::to_root` meets its contract. Assumes nothing.
 use Rattle.tree.proofs.InRows.{ascend_start, ascend_more, ascend_root, ascend_end}
-use Rattle.std.proofs.Common.{◌-◌, arith}
+use Rattle.std.proofs.Common.{arith}
 use Rattle.tree.proofs.to_root.Goals as goal
 
 pub loop-k-init : goal.loop-k-init

@@ -1,0 +1,13 @@
+-- The loop of `swapfix::put_all`: what it keeps and what falls. Assumes nothing.
+use mathlib.Core.Path.{◌≡◌}
+use lib.ListN.{length}
+use Prim.Native.Nat.{◌-◌}
+use Rattle.swapfix.proofs.put_all.Given as goal
+
+abbrev pub invariant-loop-x : goal.invariant-loop-x
+invariant-loop-x l =
+    length l.out ≡ length l.initial.out
+
+abbrev pub decreases-loop-x : goal.decreases-loop-x
+decreases-loop-x l =
+    length l.parents - l.x
