@@ -2,7 +2,7 @@
  * Doeragyeol: an archive of backup routes whose every answer is proved.
  *
  * Ten functions over numbers and lent rows, and the version. A row is a pointer and then how many numbers it has. Link with
- * libdoeragyeol.a (x86-64 Linux), which `rt staticlib doeragyeol` proves and writes to target/staticlib/. The library
+ * libdoeragyeol.a (x86-64 Linux), which `rt lib` in crates/doeragyeol proves and writes to its folder out/. The library
  * calls nothing but memset, keeps nothing between calls, has no heap, and takes less than 100 KiB of stack, at most 2 KiB
  * for doeragyeol_distance (measured, not proved). Calls on rows of their own may run at the same time, and calls that only
  * read a row may share it.

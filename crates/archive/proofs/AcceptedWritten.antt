@@ -11,7 +11,8 @@ use lib.Seq.{take_all, get_or-take, get_or-drop}
 use borrow.Author.Tests.{eqb-true, eqb-false, not-false, ltb-true, ltb-false, leb-false}
 use Rattle.edition.specs.declared.Verdict.TheVariants.{Taken}
 use Rattle.edition.specs.declared.Why.TheVariants.{BadLength, BadEntry}
-use Rattle.edition.specs.Stored.{block_bytes, front_bytes, header_kind, links_kind, table_kind, link_bytes, entry_bytes, headers_a_block, links_a_block, entries_a_block}
+use Rattle.edition.specs.Stored.{block_bytes, front_bytes, header_kind, links_kind, table_kind, link_bytes, entry_bytes, headers_a_block, links_a_block}
+use Rattle.edition.specs.Stored.{entries_a_block}
 use Rattle.rows.specs.Count.{rows_to}
 use Rattle.rows.proofs.Records.{rows_cong}
 use Rattle.rows.proofs.Refusing.{head_taken, rest-taken, if_taken_lem, at_taken, to_taken}

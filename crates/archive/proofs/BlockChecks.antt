@@ -46,7 +46,9 @@ module _ (f : ℕ → Verdict) (count : ℕ) where
   refuses_at zero i r l h e = absurd (not-suc-le-zero l)
   refuses_at (suc k) i r l h e = go (refuses_at k i r) (eqb i k) refl
     where
-      go : (i < k → ((j : ℕ) → j < i → f j ≡ Taken) → f i ≡ Refused r → verdict_to f k ≡ Refused r) → (b : Bool) → eqb i k ≡ b → verdict_to f (suc k) ≡ Refused r
+      go :
+          (i < k → ((j : ℕ) → j < i → f j ≡ Taken) → f i ≡ Refused r → verdict_to f k ≡ Refused r)
+          → (b : Bool) → eqb i k ≡ b → verdict_to f (suc k) ≡ Refused r
       go ih true q =
           let same = eqb-true i k q in
           head_passes _ _ (to_passes f k (λ j m. h j (omega (arith, m, same)))) ∙ (only_one (f k) ∙ (ap f (sym same) ∙ e))

@@ -101,7 +101,8 @@ module _ (g : Net) where
       let i = 1 + e / links_a_block in
       let r = e % links_a_block in
       let here : (i - 1) * links_a_block + r ≡ e = omega arith in
-      let is : part_at n m i ≡ part_of links_kind links_a_block m (i - 1) = rw (ne_eqb i 0 (λ z. omega (arith, z)), le-leb i (link_blocks m) (omega (arith, l))) in
+      let is : part_at n m i ≡ part_of links_kind links_a_block m (i - 1) =
+      rw (ne_eqb i 0 (λ z. omega (arith, z)), le-leb i (link_blocks m) (omega (arith, l))) in
       record-there i (omega (arith, l)) (part_of links_kind links_a_block m (i - 1)) is r (omega (arith, l))
       ∙ ap (λ (k : ℕ). link_record (g.link k)) here
 

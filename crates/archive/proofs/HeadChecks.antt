@@ -33,7 +33,9 @@ module _ (file : List ℕ) (b : Bool) (odd : b ≡ bad_file_length file) (v : Ve
     pub first-there : 0 * block_bytes + block_bytes ≤ length file
     unfolding bad_file_length
     first-there =
-        let parts = or_false (eqb (length file) 0) (not (eqb (length file % block_bytes) 0)) (if_taken_lem (bad_file_length file) BadLength 0 (sym whole ∙ ok)) in
+        let parts =
+        or_false (eqb (length file) 0) (not (eqb (length file % block_bytes) 0))
+        (if_taken_lem (bad_file_length file) BadLength 0 (sym whole ∙ ok)) in
         omega (arith, eqb-false (length file) 0 parts.0, eqb-true (length file % block_bytes) 0 (not-false (eqb (length file % block_bytes) 0) parts.1))
 
     module _ (w : Verdict) (first : w ≡ block_refusal file 0 0 0) where

@@ -9,7 +9,8 @@ use lib.Dec.{eqb, leb}
 use lib.ListN.{length}
 use borrow.Author.Tests.{eqb-true, eqb-false, ne_eqb, leb-true, leb-false, le-ltb}
 use Rattle.edition.specs.Limits.{node_limit, link_limit}
-use Rattle.edition.specs.Stored.{payload_bytes, header_kind, links_kind, table_kind, header_bytes, link_bytes, entry_bytes, headers_a_block, links_a_block, entries_a_block}
+use Rattle.edition.specs.Stored.{payload_bytes, header_kind, links_kind, table_kind, header_bytes, link_bytes, entry_bytes, headers_a_block, links_a_block}
+use Rattle.edition.specs.Stored.{entries_a_block}
 use Rattle.rows.proofs.Tests.{clash}
 use Rattle.numbers.specs.Bytes.{word_most}
 use Rattle.block.specs.Block.{capacity, record_bytes, no_such_block}

@@ -136,7 +136,8 @@ module _ (g : Net) (ok : net_verdict g ≡ Taken) where
       }
 
 -- a sound network of lent rows, whose numbers have 16 bits
-module _ (links parents : List ℕ) (aim : Aim) (ok : net_verdict (net_of links parents (by_number aim)) ≡ Taken) (held : (i : ℕ) → get_or links i 0 ≤ longest) where
+module _ (links parents : List ℕ) (aim : Aim) (ok : net_verdict (net_of links parents (by_number aim)) ≡ Taken)
+    (held : (i : ℕ) → get_or links i 0 ≤ longest) where
   abbrev g : Net
   g = net_of links parents (by_number aim)
 

@@ -1,7 +1,8 @@
 -- The parts of a file of n nodes and m links: which block holds which records. Assumes nothing.
 use Rattle.std.specs.Prelude.{cond, ℕ, ◌+◌, ◌*◌, ◌-◌, ◌/◌, ◌%◌, min, eqb, leb}
 use Rattle.archive.specs.declared.Part.{Part}
-use Rattle.edition.specs.Stored.{block_bytes, front_bytes, header_kind, links_kind, table_kind, link_bytes, entry_bytes, headers_a_block, links_a_block, entries_a_block}
+use Rattle.edition.specs.Stored.{block_bytes, front_bytes, header_kind, links_kind, table_kind, link_bytes, entry_bytes, headers_a_block, links_a_block}
+use Rattle.edition.specs.Stored.{entries_a_block}
 
 -- How many blocks hold c records, so many a block.
 unfoldable pub blocks_for : ℕ → ℕ → ℕ

@@ -13,7 +13,8 @@ ghost use Rattle.archive.specs.Work.{parent_number, bad_by, Placed, Blocked, Jud
 ghost use Rattle.rows.specs.Count.{row_with};
 ghost use Rattle.rows.specs.Lists.{same};
 ghost use Rattle.rows.specs.First.{first_to, verdict_to};
-ghost use Rattle.archive.specs.Reader.{Rows, block_refusal, head_read, net_read, bad_file_length, head_verdict, too_short, read_verdict, read_answer, rows_read};
+ghost use Rattle.archive.specs.Reader.{Rows, block_refusal, head_read, net_read, bad_file_length, head_verdict, too_short, read_verdict, read_answer};
+ghost use Rattle.archive.specs.Reader.{rows_read};
 ghost use Rattle.archive.specs.Reader.{nodes_read, links_read, stored_link, links_held, parents_held};
 ghost use Rattle.table.specs.Table.{table};
 ghost use Rattle.archive.specs.Writer.{block_of, file_of, file_length, write_verdict, write_answer, written_row};

@@ -114,7 +114,8 @@ module _ (kind number used : ℕ) (b : List ℕ) where
         emptied =
             f
             ∙ (ap₂ (λ (x y : List ℕ). take (front_bytes + used * w) r ++ x ++ y)
-            (take_all (payload_bytes - used * w) (replicate (payload_bytes - used * w) 0) (omega (arith, length-replicate {A = ℕ} (payload_bytes - used * w) 0)))
+            (take_all (payload_bytes - used * w) (replicate (payload_bytes - used * w) 0)
+            (omega (arith, length-replicate {A = ℕ} (payload_bytes - used * w) 0)))
             (drop_of_length-le r {i = front_bytes + used * w + (payload_bytes - used * w)} (omega (arith, size, ap length e ∙ front_length kind number used b)))
             ∙ (append-nil _
             ∙ (ap (λ (x : List ℕ). x ++ replicate (payload_bytes - used * w) 0) (take-add front_bytes (used * w) r)

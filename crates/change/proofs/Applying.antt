@@ -169,7 +169,11 @@ module _ (links parents : List ℕ) (search : Search) where
                 ∙ sym (mended_rows links parents search c a entries))),
           )
             where
-              same : (x : ℕ) → x < length parents → fresh_at (net_of (set_link links c) parents search) asked entries x ≡ made_at links parents search c a entries x
+              same :
+                  (x : ℕ)
+                  → x < length parents
+                  → fresh_at (net_of (set_link links c) parents search) asked entries x
+                  ≡ made_at links parents search c a entries x
               same x m = made_same x (marked-is x m)
 
     pub apply_room : length parents ≤ entries_in entries

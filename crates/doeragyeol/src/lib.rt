@@ -15,7 +15,8 @@ ghost use Rattle.edition.specs.declared.Change.{Change};
 ghost use Rattle.edition.specs.declared.Measure.TheVariants.{Sum, Incr, Max};
 ghost use Rattle.forward.specs.declared.Ask.{Ask};
 ghost use Rattle.doeragyeol.specs.Word.{version, place_most, word_of, answered};
-ghost use Rattle.doeragyeol.specs.Calls.{lent_net, filed_net, lent_rows, check_said, sizes_row, map_said, words_row, open_row, write_said, file_row, length_row};
+ghost use Rattle.doeragyeol.specs.Calls.{lent_net, filed_net, lent_rows, check_said, sizes_row, map_said, words_row, open_row, write_said, file_row};
+ghost use Rattle.doeragyeol.specs.Calls.{length_row};
 ghost use Rattle.doeragyeol.specs.Calls.{read_said, rows_left, header_row, forward_said, ordinary_left, detour_left, way_row};
 ghost use Rattle.doeragyeol.specs.Calls.{tree_net, distance_said, apart_row};
 

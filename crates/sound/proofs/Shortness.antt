@@ -92,5 +92,8 @@ module _ (links parents : List ℕ) (search : Search) where
           let filled : after ≡ row_with (dist (tree_of g)) (length parents) row =
           q.1
           ∙ ap (λ (x : Verdict). if_taken x (row_with (dist (tree_of g)) (length parents) row) row) (sym q.0 ∙ t) in
-          let same = p ∙ ap (λ (r : List ℕ). first_to (λ e. breaks_by r (link_in links e)) (links_in links)) filled ∙ first_cong _ _ (links_in links) breaks-is in
+          let same =
+          p
+          ∙ ap (λ (r : List ℕ). first_to (λ e. breaks_by r (link_in links e)) (links_in links)) filled
+          ∙ first_cong _ _ (links_in links) breaks-is in
           s ∙ ap (refused_at NotShort) same ∙ sym (head_passes _ _ (sym walked_is ∙ t) ∙ only_one _)

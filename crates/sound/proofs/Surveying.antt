@@ -105,7 +105,10 @@ module _ (links parents : List ℕ) (search : Search) where
             → (w : Verdict) → w ≡ refused_at NotShort f → (w ≡ tree_verdict g) × (after ≡ tree_row g row)
         unfolding tree_verdict refuse_at net_of
         walk_done f p w s =
-            let same = p ∙ ap (λ (r : List ℕ). first_to (λ e. breaks_in r (link_in links e)) (links_in links)) filled ∙ first_cong _ _ (links_in links) breaks-is in
+            let same =
+            p
+            ∙ ap (λ (r : List ℕ). first_to (λ e. breaks_in r (link_in links e)) (links_in links)) filled
+            ∙ first_cong _ _ (links_in links) breaks-is in
             (s ∙ ap (refused_at NotShort) same ∙ sym (head_passes _ _ taken_is ∙ only_one _), q.1 ∙ row_is)
 
 -- 10 of the row

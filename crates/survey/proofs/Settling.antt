@@ -94,7 +94,9 @@ module _ (t : Tree) (u k : ℕ) (before from path : List ℕ) (m₀ : ℕ) (r : 
             low = omega (arith, s.low);
             placed = placed-more t r.closed m order seats s.placed (get_or path next 0) next_in seat_none (rw above_next s.ahead.end);
             ahead = ahead_next;
-            still = λ v. seat_cases seats (get_or path next 0) (suc m) next_seat (λ v p. 0 < get_or from v 0 → 0 < p) (λ z. omega arith) (λ v n z. s.still v z) v;
+            still =
+                λ v. seat_cases seats (get_or path next 0) (suc m) next_seat (λ v p. 0 < get_or from v 0 → 0 < p)
+                (λ z. omega arith) (λ v n z. s.still v z) v;
             order_same = length-set order m (get_or path next 0) ∙ s.order_same;
             seats_same = length-set seats (get_or path next 0) (suc m) ∙ s.seats_same;
           })

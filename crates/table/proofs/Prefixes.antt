@@ -1,5 +1,6 @@
 -- What one more link does to an entry: nothing where it does not cross, else what `offered` says. Assumes nothing.
-use Rattle.std.proofs.Common.{◌≡◌, ℕ, suc, ◌<◌, Bool, true, false, cond, ◌&&◌, ◌||◌, eqb, ltb, [], ◌∷◌, sym, refl, ap, ◌∙◌, subst, arith, le-ltb, eq-eqb, ne_eqb, eqb-true}
+use Rattle.std.proofs.Common.{◌≡◌, ℕ, suc, ◌<◌, Bool, true, false, cond, ◌&&◌, ◌||◌, eqb, ltb, [], ◌∷◌, sym, refl, ap, ◌∙◌, subst, arith, le-ltb, eq-eqb}
+use Rattle.std.proofs.Common.{ne_eqb, eqb-true}
 use borrow.Author.Tests.{eqb-false}
 use Rattle.edition.specs.declared.Found.{Found}
 use Rattle.edition.specs.declared.Found.TheVariants.{Nothing, At}
@@ -65,7 +66,16 @@ module _ (g : Net) (x : ℕ) where
 
   -- the entry of the first k links
   entry_of : ℕ → Entry
-  entry_of k = record { state = state_of k; sum = priced Sum g x (best_of Sum k); incr = priced Incr g x (best_of Incr k); max = priced Max g x (best_of Max k) }
+  entry_of k =
+      record {
+        state =
+            state_of k;
+        sum =
+            priced Sum g x (best_of Sum k);
+        incr =
+            priced Incr g x (best_of Incr k);
+        max = priced Max g x (best_of Max k);
+      }
 
   entry_of_lem : (k : ℕ) → eqb x g.search.root ≡ false → entry (first_links g k) x ≡ entry_of k
   unfolding entry_of first_links

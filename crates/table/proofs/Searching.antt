@@ -1,5 +1,6 @@
 -- A whole search: the entries asked for begin as the root's or a bridge's, and then every link is offered. Assumes nothing.
-use Rattle.std.proofs.Common.{◌≡◌, ℕ, suc, ◌+◌, ◌<◌, ◌≤◌, Bool, true, false, cond, eqb, ltb, List, length, sym, refl, ap, ◌∙◌, subst, arith, ltb-false, ltb-true, le-ltb, lt-ltb, eqb-true}
+use Rattle.std.proofs.Common.{◌≡◌, ℕ, suc, ◌+◌, ◌<◌, ◌≤◌, Bool, true, false, cond, eqb, ltb, List, length, sym, refl, ap, ◌∙◌, subst, arith, ltb-false}
+use Rattle.std.proofs.Common.{ltb-true, le-ltb, lt-ltb, eqb-true}
 use borrow.Author.Tests.{eqb-false}
 use Rattle.edition.specs.declared.Search.{Search}
 use Rattle.edition.specs.declared.Entry.{Entry}
@@ -80,7 +81,9 @@ module _ (root : ℕ) (asked before : List ℕ) (n : ℕ) where
         (row' : List ℕ)
         → row' ≡ cond (is_asked asked k) (put_entry row k (blank (cond (eqb k root) root_state bridge_state))) row
         → Entries n (up_to_node (k + 1) (start_at root asked before) (standing before)) before row'
-    clear_more row' u = subst (λ (j : ℕ). Entries n (up_to_node j (start_at root asked before) (standing before)) before row') (next k) (go (is_asked asked k) refl)
+    clear_more row' u =
+        subst (λ (j : ℕ). Entries n (up_to_node j (start_at root asked before) (standing before)) before row') (next k)
+        (go (is_asked asked k) refl)
       where
         go : (b : Bool) → is_asked asked k ≡ b → Entries n (up_to_node (suc k) (start_at root asked before) (standing before)) before row'
         go true z = rw (u, z) (clear_one z)

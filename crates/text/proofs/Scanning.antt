@@ -119,7 +119,10 @@ module _ (text : List ℕ) (from : ℕ) (name : List ℕ) where
         → false ≡ not (some_to (differ text from name) (length name))
     unfolding byte_at
     match_not l a b e f g =
-        sym (ap not (one_some (differ text from name) (length name) i l (ap not (ne_eqb (byte_at text (from + i)) (byte_at name i) (λ h. g (e ∙ (h ∙ sym f)))))))
+        sym
+        (ap not
+        (one_some (differ text from name) (length name) i l
+        (ap not (ne_eqb (byte_at text (from + i)) (byte_at name i) (λ h. g (e ∙ (h ∙ sym f)))))))
 
     pub match_all : length name ≤ i → true ≡ not (some_to (differ text from name) (length name))
     match_all l = sym (ap not (none_some (differ text from name) (length name) (λ j m. s.same j (omega arith))))

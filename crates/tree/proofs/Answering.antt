@@ -1,5 +1,6 @@
 -- What is answered of one node, of two, and of all: from the verdicts and climbs of the code to the definitions. Assumes nothing.
-use Rattle.std.proofs.Common.{◌≡◌, ℕ, ◌+◌, ◌*◌, ◌<◌, ◌≤◌, false, ◌&&◌, ltb, List, [], ◌∷◌, ◌++◌, length, drop, sym, refl, ap, ◌∙◌, le_trans, mul-le-mul_right, arith, ltb-false, ltb-true, le-ltb}
+use Rattle.std.proofs.Common.{◌≡◌, ℕ, ◌+◌, ◌*◌, ◌<◌, ◌≤◌, false, ◌&&◌, ltb, List, [], ◌∷◌, ◌++◌, length, drop, sym, refl, ap, ◌∙◌, le_trans, mul-le-mul_right}
+use Rattle.std.proofs.Common.{arith, ltb-false, ltb-true, le-ltb}
 use lib.Seq.{sets, sets-eq}
 use borrow.Author.Tests.{not-false}
 use Rattle.edition.specs.declared.Refusal.{Refusal}

@@ -1,7 +1,8 @@
 -- How long routes can be, where each node's parent is a node: a node that has a way at all has one of at most n nodes, so the
 -- cut in `route` and the bound of refusal 8 lose nothing; and a tree path, and a way around a failed link, have no more nodes than
 -- there are. Assumes nothing.
-use Rattle.std.proofs.Common.{◌≡◌, ℕ, ◌+◌, ◌*◌, ◌<◌, ◌≤◌, true, false, ◌||◌, eqb, List, [], ◌∷◌, ◌++◌, length, sym, refl, ◌∙◌, subst, ap₂, mul-le-mul_right, suc-mul, add-mul, one-mul, arith, length-append, ne_eqb, eqb-true}
+use Rattle.std.proofs.Common.{◌≡◌, ℕ, ◌+◌, ◌*◌, ◌<◌, ◌≤◌, true, false, ◌||◌, eqb, List, [], ◌∷◌, ◌++◌, length, sym, refl, ◌∙◌, subst, ap₂, mul-le-mul_right}
+use Rattle.std.proofs.Common.{suc-mul, add-mul, one-mul, arith, length-append, ne_eqb, eqb-true}
 use Rattle.rows.specs.Lists.{has, up_to, total}
 use Rattle.rows.proofs.Tests.{clash, either, not_so}
 use Rattle.rows.proofs.Listed.{has-append, total_bound, up_to_less, up_to-out}

@@ -1,6 +1,7 @@
 -- The climbing cursor against the route. From its start the cursor's hops and distance are those of the node that it has come to;
 -- no sum wraps, since no climb takes more steps than there can be nodes. Assumes nothing.
-use Rattle.std.proofs.Common.{◌≡◌, ℕ, suc, ◌+◌, ◌-◌, ◌*◌, ◌%◌, ◌^◌, ◌<◌, ◌≤◌, Bool, true, false, ◌||◌, eqb, List, [], ◌∷◌, ◌++◌, length, sym, refl, ap, ◌∙◌, subst, append_assoc, mod-eq_of_lt, arith, length-append, eq-eqb, ne_eqb, eqb-true}
+use Rattle.std.proofs.Common.{◌≡◌, ℕ, suc, ◌+◌, ◌-◌, ◌*◌, ◌%◌, ◌^◌, ◌<◌, ◌≤◌, Bool, true, false, ◌||◌, eqb, List, [], ◌∷◌, ◌++◌, length, sym, refl, ap, ◌∙◌}
+use Rattle.std.proofs.Common.{subst, append_assoc, mod-eq_of_lt, arith, length-append, eq-eqb, ne_eqb, eqb-true}
 use Rattle.edition.specs.Limits.{node_limit, longest}
 use Rattle.rows.specs.Lists.{has, up_to, total}
 use Rattle.rows.proofs.Tests.{clash, either, or_false, or_right, or_none, not_so}

@@ -1,5 +1,6 @@
 -- The climb onto a row that has the root: it ends at the first node of the route that is in the row. Assumes nothing.
-use Rattle.std.proofs.Common.{◌≡◌, ℕ, ◌<◌, ◌≤◌, Bool, true, false, not, ◌||◌, eqb, List, [], ◌∷◌, ◌++◌, length, get_or, sym, refl, ap, ◌∙◌, subst, arith, eqb-true}
+use Rattle.std.proofs.Common.{◌≡◌, ℕ, ◌<◌, ◌≤◌, Bool, true, false, not, ◌||◌, eqb, List, [], ◌∷◌, ◌++◌, length, get_or, sym, refl, ap, ◌∙◌, subst, arith}
+use Rattle.std.proofs.Common.{eqb-true}
 use borrow.Author.Tests.{not-true, not-false}
 use Rattle.edition.specs.declared.Search.{Search}
 use Rattle.edition.specs.Limits.{node_limit, longest}

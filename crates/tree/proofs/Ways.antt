@@ -1,6 +1,7 @@
 -- Routes. `Way t u r` says that r is the route of u to the root: the node alone at the root, else the node followed by the
 -- route of its parent. Every induction on a tree goes over ways. Assumes nothing.
-use Rattle.std.proofs.Common.{◌≡◌, ℕ, zero, suc, ◌+◌, ◌<◌, ◌≤◌, Bool, true, false, ◌||◌, eqb, List, [], ◌∷◌, ◌++◌, length, sym, refl, ap, ◌∙◌, subst, not-suc-le-zero, arith, length-append, eq-eqb, ne_eqb, eqb-true}
+use Rattle.std.proofs.Common.{◌≡◌, ℕ, zero, suc, ◌+◌, ◌<◌, ◌≤◌, Bool, true, false, ◌||◌, eqb, List, [], ◌∷◌, ◌++◌, length, sym, refl, ap, ◌∙◌, subst}
+use Rattle.std.proofs.Common.{not-suc-le-zero, arith, length-append, eq-eqb, ne_eqb, eqb-true}
 use Rattle.rows.specs.Lists.{has, up_to, total}
 use Rattle.rows.proofs.Tests.{clash, either, or_right}
 use Rattle.rows.proofs.Listed.{has-append, has_head, total-append, up_to-here, up_to-past, up_to_less}

@@ -28,7 +28,8 @@ detour_by-requires c =
     (replicate known_room 0) _ full_room ok c.survey_network-sound.ensures.1 in (
       cut_asked _ _ _ _ c.args.ordinary.now c.args.detour.now c.survey_network-sound.ensures.0 c.in_default.is c.check_ask-fits.ensures c.in_default-fits.is
           c.is_under.ensures c.if-is_under.true row,
-      (fits _ _ _ _ c.args.ordinary.now c.args.detour.now c.survey_network-sound.ensures.0 c.in_default.is c.check_ask-fits.ensures c.in_default-fits.is).detour-room,
+      (fits _ _ _ _ c.args.ordinary.now c.args.detour.now c.survey_network-sound.ensures.0 c.in_default.is
+          c.check_ask-fits.ensures c.in_default-fits.is).detour-room,
     )
 
 pub returns-then-is_under : goal.returns-then-is_under
@@ -41,7 +42,8 @@ returns-then-is_under c =
 pub list_route-requires : goal.list_route-requires
 list_route-requires c = (
   start-node _ _ _ _ c.args.ordinary.now c.args.detour.now c.survey_network-sound.ensures.0 c.in_default.is c.check_ask-fits.ensures c.in_default-fits.is,
-  (fits _ _ _ _ c.args.ordinary.now c.args.detour.now c.survey_network-sound.ensures.0 c.in_default.is c.check_ask-fits.ensures c.in_default-fits.is).ordinary_room,
+  (fits _ _ _ _ c.args.ordinary.now c.args.detour.now c.survey_network-sound.ensures.0 c.in_default.is
+      c.check_ask-fits.ensures c.in_default-fits.is).ordinary_room,
 )
 
 pub returns : goal.returns

@@ -17,8 +17,11 @@ returns-then-k-parents c =
 pub loop-u-preserved : goal.loop-u-preserved
 unfolding tree_of net_of
 loop-u-preserved c =
-    let ready = turning_ready _ c.requires.0 _ _ _ _ _ _ _ _ c.loop-u.invariant _ _ c.path-1.given c.climb_free-k.ensures c.loop-u-test.true c.if-k-parents.false c.requires.2 in
-    turning_more _ c.requires.0 _ _ _ _ _ _ _ _ c.loop-u.invariant _ _ c.path-1.given c.climb_free-k.ensures c.loop-u-test.true c.if-k-parents.false c.requires.2 _ _ _
+    let ready =
+    turning_ready _ c.requires.0 _ _ _ _ _ _ _ _ c.loop-u.invariant _ _ c.path-1.given c.climb_free-k.ensures
+    c.loop-u-test.true c.if-k-parents.false c.requires.2 in
+    turning_more _ c.requires.0 _ _ _ _ _ _ _ _ c.loop-u.invariant _ _ c.path-1.given c.climb_free-k.ensures
+    c.loop-u-test.true c.if-k-parents.false c.requires.2 _ _ _
     c.order-1.given c.seats-1.given (c.settle-m.ensures _ _ ready)
 
 pub returns : goal.returns

@@ -10,7 +10,11 @@ loop-i-init c =
 
 pub offset_bounds-order-i : goal.offset_bounds-order-i
 offset_bounds-order-i c =
-    omega (arith, raise_read _ _ _ c.requires.2 _ _ _ (c.loop-i.invariant c.requires.0 c.requires.1 c.requires.2 c.requires.3) (c.loop-i.i - 1) (omega arith) (omega arith))
+    omega (
+      arith,
+      raise_read _ _ _ c.requires.2 _ _ _ (c.loop-i.invariant c.requires.0 c.requires.1 c.requires.2 c.requires.3)
+          (c.loop-i.i - 1) (omega arith) (omega arith),
+    )
 
 pub bounds-order-i : goal.bounds-order-i
 bounds-order-i c =

@@ -1,5 +1,6 @@
 -- `table::climb_link` meets its contract. Assumes nothing.
-use Rattle.table.proofs.Linking.{Between, first_less, second_less, between_more, between_end, Went, went_on, went_still, between_start, between_turn, node-ranked, first_next, offering, stepping, Turn}
+use Rattle.table.proofs.Linking.{Between, first_less, second_less, between_more, between_end, Went, went_on, went_still, between_start, between_turn}
+use Rattle.table.proofs.Linking.{node-ranked, first_next, offering, stepping, Turn}
 use Rattle.table.proofs.Offering.{bidding}
 use Rattle.std.proofs.Common.{◌≡◌, ℕ, ◌/◌, ◌<◌, ◌≤◌, List, get_or, sym, arith}
 use Rattle.network.specs.Network.{Net}
@@ -44,19 +45,26 @@ pub costs_of-c-requires : goal.costs_of-c-requires
 costs_of-c-requires c = (
   c.requires.0,
   c.args.e,
-  (offering (second-turn (c.loop-search.invariant _ _ c.requires.2) c.requires.2.searching.ranked c.rank_at.ensures c.rank_at-in-loop-search.ensures c.loop-search-test.true
+  (offering (second-turn (c.loop-search.invariant _ _ c.requires.2) c.requires.2.searching.ranked
+      c.rank_at.ensures c.rank_at-in-loop-search.ensures c.loop-search-test.true
       c.rank_at-in-loop-search-2.ensures c.rank_at-in-loop-search-3.ensures c.if-rank_at.true) c.requires.2).costing,
 )
 
 pub is_worth-requires : goal.is_worth-requires
 is_worth-requires c =
-    let it = offering (second-turn (c.loop-search.invariant _ _ c.requires.2) c.requires.2.searching.ranked c.rank_at.ensures c.rank_at-in-loop-search.ensures c.loop-search-test.true
+    let it =
+    offering
+    (second-turn (c.loop-search.invariant _ _ c.requires.2) c.requires.2.searching.ranked
+    c.rank_at.ensures c.rank_at-in-loop-search.ensures c.loop-search-test.true
     c.rank_at-in-loop-search-2.ensures c.rank_at-in-loop-search-3.ensures c.if-rank_at.true) c.requires.2 in
     (c.requires.0, c.args.links.now, c.requires.1, c.args.survey.now, c.args.e, c.args.k, it, c.costs_of-c.ensures _ _ it.costing)
 
 pub standing_at-standing-requires : goal.standing_at-standing-requires
 standing_at-standing-requires c =
-    let it = offering (second-turn (c.loop-search.invariant _ _ c.requires.2) c.requires.2.searching.ranked c.rank_at.ensures c.rank_at-in-loop-search.ensures c.loop-search-test.true
+    let it =
+    offering
+    (second-turn (c.loop-search.invariant _ _ c.requires.2) c.requires.2.searching.ranked
+    c.rank_at.ensures c.rank_at-in-loop-search.ensures c.loop-search-test.true
     c.rank_at-in-loop-search-2.ensures c.rank_at-in-loop-search-3.ensures c.if-rank_at.true) c.requires.2 in
     let priced = c.costs_of-c.ensures _ _ it.costing in
     let worth = (c.is_worth.ensures _ _ _ _ _ _ it priced).yes c.if-is_worth.true in
@@ -64,7 +72,10 @@ standing_at-standing-requires c =
 
 pub offer_at-requires : goal.offer_at-requires
 offer_at-requires c =
-    let it = offering (second-turn (c.loop-search.invariant _ _ c.requires.2) c.requires.2.searching.ranked c.rank_at.ensures c.rank_at-in-loop-search.ensures c.loop-search-test.true
+    let it =
+    offering
+    (second-turn (c.loop-search.invariant _ _ c.requires.2) c.requires.2.searching.ranked
+    c.rank_at.ensures c.rank_at-in-loop-search.ensures c.loop-search-test.true
     c.rank_at-in-loop-search-2.ensures c.rank_at-in-loop-search-3.ensures c.if-rank_at.true) c.requires.2 in
     let priced = c.costs_of-c.ensures _ _ it.costing in
     let worth = (c.is_worth.ensures _ _ _ _ _ _ it priced).yes c.if-is_worth.true in (
@@ -81,20 +92,25 @@ offer_at-requires c =
 pub step-b-requires : goal.step-b-requires
 step-b-requires c = (
   c.requires.0,
-  stepping (second-turn (c.loop-search.invariant _ _ c.requires.2) c.requires.2.searching.ranked c.rank_at.ensures c.rank_at-in-loop-search.ensures c.loop-search-test.true
+  stepping
+      (second-turn (c.loop-search.invariant _ _ c.requires.2) c.requires.2.searching.ranked
+      c.rank_at.ensures c.rank_at-in-loop-search.ensures c.loop-search-test.true
       c.rank_at-in-loop-search-2.ensures c.rank_at-in-loop-search-3.ensures c.if-rank_at.true),
 )
 
 pub loop-search-smaller-then-rank_at : goal.loop-search-smaller-then-rank_at
 loop-search-smaller-then-rank_at c =
-    let turn = (second-turn (c.loop-search.invariant _ _ c.requires.2) c.requires.2.searching.ranked c.rank_at.ensures c.rank_at-in-loop-search.ensures c.loop-search-test.true
+    let turn =
+    (second-turn (c.loop-search.invariant _ _ c.requires.2) c.requires.2.searching.ranked
+    c.rank_at.ensures c.rank_at-in-loop-search.ensures c.loop-search-test.true
     c.rank_at-in-loop-search-2.ensures c.rank_at-in-loop-search-3.ensures c.if-rank_at.true) in
     second_less turn (c.step-b.ensures _ (stepping turn))
 
 pub loop-search-preserved-then-rank_at : goal.loop-search-preserved-then-rank_at
 loop-search-preserved-then-rank_at c =
     λ g asked h.
-    let turn = (second-turn (c.loop-search.invariant g asked h) h.searching.ranked c.rank_at.ensures c.rank_at-in-loop-search.ensures c.loop-search-test.true
+    let turn = (second-turn (c.loop-search.invariant g asked h) h.searching.ranked
+    c.rank_at.ensures c.rank_at-in-loop-search.ensures c.loop-search-test.true
     c.rank_at-in-loop-search-2.ensures c.rank_at-in-loop-search-3.ensures c.if-rank_at.true) in
     let it = offering turn h in
     let priced = c.costs_of-c.ensures g _ it.costing in
@@ -112,19 +128,26 @@ pub costs_of-c-requires-else-rank_at : goal.costs_of-c-requires-else-rank_at
 costs_of-c-requires-else-rank_at c = (
   c.requires.0,
   c.args.e,
-  (offering (first-turn (c.loop-search.invariant _ _ c.requires.2) c.requires.2.searching.ranked c.rank_at.ensures c.rank_at-in-loop-search.ensures c.loop-search-test.true
+  (offering (first-turn (c.loop-search.invariant _ _ c.requires.2) c.requires.2.searching.ranked
+      c.rank_at.ensures c.rank_at-in-loop-search.ensures c.loop-search-test.true
       c.rank_at-in-loop-search-2.ensures c.rank_at-in-loop-search-3.ensures c.if-rank_at.false) c.requires.2).costing,
 )
 
 pub is_worth-requires-else-rank_at : goal.is_worth-requires-else-rank_at
 is_worth-requires-else-rank_at c =
-    let it = offering (first-turn (c.loop-search.invariant _ _ c.requires.2) c.requires.2.searching.ranked c.rank_at.ensures c.rank_at-in-loop-search.ensures c.loop-search-test.true
+    let it =
+    offering
+    (first-turn (c.loop-search.invariant _ _ c.requires.2) c.requires.2.searching.ranked
+    c.rank_at.ensures c.rank_at-in-loop-search.ensures c.loop-search-test.true
     c.rank_at-in-loop-search-2.ensures c.rank_at-in-loop-search-3.ensures c.if-rank_at.false) c.requires.2 in
     (c.requires.0, c.args.links.now, c.requires.1, c.args.survey.now, c.args.e, c.args.k, it, c.costs_of-c-else-rank_at.ensures _ _ it.costing)
 
 pub standing_at-standing-requires-then-is_worth-2 : goal.standing_at-standing-requires-then-is_worth-2
 standing_at-standing-requires-then-is_worth-2 c =
-    let it = offering (first-turn (c.loop-search.invariant _ _ c.requires.2) c.requires.2.searching.ranked c.rank_at.ensures c.rank_at-in-loop-search.ensures c.loop-search-test.true
+    let it =
+    offering
+    (first-turn (c.loop-search.invariant _ _ c.requires.2) c.requires.2.searching.ranked
+    c.rank_at.ensures c.rank_at-in-loop-search.ensures c.loop-search-test.true
     c.rank_at-in-loop-search-2.ensures c.rank_at-in-loop-search-3.ensures c.if-rank_at.false) c.requires.2 in
     let priced = c.costs_of-c-else-rank_at.ensures _ _ it.costing in
     let worth = (c.is_worth-else-rank_at.ensures _ _ _ _ _ _ it priced).yes c.if-is_worth-2.true in
@@ -132,7 +155,10 @@ standing_at-standing-requires-then-is_worth-2 c =
 
 pub offer_at-requires-then-is_worth-2 : goal.offer_at-requires-then-is_worth-2
 offer_at-requires-then-is_worth-2 c =
-    let it = offering (first-turn (c.loop-search.invariant _ _ c.requires.2) c.requires.2.searching.ranked c.rank_at.ensures c.rank_at-in-loop-search.ensures c.loop-search-test.true
+    let it =
+    offering
+    (first-turn (c.loop-search.invariant _ _ c.requires.2) c.requires.2.searching.ranked
+    c.rank_at.ensures c.rank_at-in-loop-search.ensures c.loop-search-test.true
     c.rank_at-in-loop-search-2.ensures c.rank_at-in-loop-search-3.ensures c.if-rank_at.false) c.requires.2 in
     let priced = c.costs_of-c-else-rank_at.ensures _ _ it.costing in
     let worth = (c.is_worth-else-rank_at.ensures _ _ _ _ _ _ it priced).yes c.if-is_worth-2.true in (
@@ -149,20 +175,25 @@ offer_at-requires-then-is_worth-2 c =
 pub step-a-requires : goal.step-a-requires
 step-a-requires c = (
   c.requires.0,
-  stepping (first-turn (c.loop-search.invariant _ _ c.requires.2) c.requires.2.searching.ranked c.rank_at.ensures c.rank_at-in-loop-search.ensures c.loop-search-test.true
+  stepping
+      (first-turn (c.loop-search.invariant _ _ c.requires.2) c.requires.2.searching.ranked
+      c.rank_at.ensures c.rank_at-in-loop-search.ensures c.loop-search-test.true
       c.rank_at-in-loop-search-2.ensures c.rank_at-in-loop-search-3.ensures c.if-rank_at.false),
 )
 
 pub loop-search-smaller : goal.loop-search-smaller
 loop-search-smaller c =
-    let turn = (first-turn (c.loop-search.invariant _ _ c.requires.2) c.requires.2.searching.ranked c.rank_at.ensures c.rank_at-in-loop-search.ensures c.loop-search-test.true
+    let turn =
+    (first-turn (c.loop-search.invariant _ _ c.requires.2) c.requires.2.searching.ranked
+    c.rank_at.ensures c.rank_at-in-loop-search.ensures c.loop-search-test.true
     c.rank_at-in-loop-search-2.ensures c.rank_at-in-loop-search-3.ensures c.if-rank_at.false) in
     first_less turn (c.step-a.ensures _ (stepping turn))
 
 pub loop-search-preserved : goal.loop-search-preserved
 loop-search-preserved c =
     λ g asked h.
-    let turn = (first-turn (c.loop-search.invariant g asked h) h.searching.ranked c.rank_at.ensures c.rank_at-in-loop-search.ensures c.loop-search-test.true
+    let turn = (first-turn (c.loop-search.invariant g asked h) h.searching.ranked
+    c.rank_at.ensures c.rank_at-in-loop-search.ensures c.loop-search-test.true
     c.rank_at-in-loop-search-2.ensures c.rank_at-in-loop-search-3.ensures c.if-rank_at.false) in
     let it = offering turn h in
     let priced = c.costs_of-c-else-rank_at.ensures g _ it.costing in
@@ -171,7 +202,10 @@ loop-search-preserved c =
     elim c.if-is_worth-2.branch [
       | then-is_worth-2 w ↦
           let bid = bidding it priced (said.yes w.if-is_worth-2.true) w.bid_of-bid-then-is_worth-2.ensures in
-          went_on (w.offer_at-then-is_worth-2.ensures g _ asked _ _ _ _ bid (w.standing_at-standing-then-is_worth-2.ensures g asked _ _ _ _ bid)) w.offer_at-then-is_worth-2.auto.entries w.entries-is
+          went_on
+          (w.offer_at-then-is_worth-2.ensures g _ asked _ _ _ _ bid
+          (w.standing_at-standing-then-is_worth-2.ensures g asked _ _ _ _ bid))
+          w.offer_at-then-is_worth-2.auto.entries w.entries-is
       | else-is_worth-2 w ↦ went_still (said.no w.if-is_worth-2.false) w.entries-is
     ] in
     between_more turn (c.step-a.ensures _ (stepping turn)) went.offered went.size

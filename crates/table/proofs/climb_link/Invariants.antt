@@ -7,7 +7,9 @@ use Rattle.table.proofs.climb_link.Given as goal
 
 abbrev pub invariant-loop-search : goal.invariant-loop-search
 invariant-loop-search l =
-    (g : Net) (asked : List ℕ) → Climbing g l.search l.links asked l.survey l.ranks l.initial.entries l.e l.k l.initial.a l.initial.b → Between g l.survey asked l.e l.k l.initial.entries l.a l.b l.entries
+    (g : Net) (asked : List ℕ)
+    → Climbing g l.search l.links asked l.survey l.ranks l.initial.entries l.e l.k l.initial.a l.initial.b
+    → Between g l.survey asked l.e l.k l.initial.entries l.a l.b l.entries
 
 abbrev pub decreases-loop-search : goal.decreases-loop-search
 decreases-loop-search l =

@@ -38,7 +38,8 @@ returns-then-not-no_better c =
 pub returns-then-search-ne-NEARER : goal.returns-then-search-ne-NEARER
 returns-then-search-ne-NEARER c =
     λ g links asked survey e k h p.
-    worth_not h (is_asked_lem h c.if-ranks-x.false) c.entry_there.ensures p (sym c.no_better.ensures ∙ not-false _ c.if-not-no_better.false-raw) c.if-search-ne-NEARER.true
+    worth_not h (is_asked_lem h c.if-ranks-x.false) c.entry_there.ensures p
+    (sym c.no_better.ensures ∙ not-false _ c.if-not-no_better.false-raw) c.if-search-ne-NEARER.true
 
 pub entry_there-requires-2 : goal.entry_there-requires-2
 entry_there-requires-2 c =

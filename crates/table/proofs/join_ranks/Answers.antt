@@ -12,7 +12,9 @@ find_rank-a-requires c =
 
 pub join_up-requires : goal.join_up-requires
 join_up-requires c =
-    let up = turning_up c.requires.2 c.requires.3 (c.loop-u.invariant _ _ c.requires.2 c.requires.3) c.loop-u-test.true in (c.requires.0, c.requires.1, up, c.find_rank-a.ensures _ _ up)
+    let up =
+    turning_up c.requires.2 c.requires.3 (c.loop-u.invariant _ _ c.requires.2 c.requires.3) c.loop-u-test.true in
+    (c.requires.0, c.requires.1, up, c.find_rank-a.ensures _ _ up)
 
 pub loop-u-preserved : goal.loop-u-preserved
 loop-u-preserved c =

@@ -39,7 +39,14 @@ pub overflow_add-k : goal.overflow_add-k
 overflow_add-k c =
     let one = c.begin_side-a.ensures _ (first_starts _ _ _ c.requires.1.surveyed c.requires.2 c.link_at-l.ensures) in
     let two = c.begin_side-b.ensures _ (second_starts _ _ _ c.requires.1.surveyed c.requires.2 c.link_at-l.ensures) in
-    record { fits = omega (arith, k_fits _ _ _ c.requires.1.surveyed c.requires.2 c.link_at-l.ensures one two (λ i. omega (arith, c.shared_slice_known-1.given i))) }
+    record {
+      fits =
+          omega (
+            arith,
+            k_fits _ _ _ c.requires.1.surveyed c.requires.2 c.link_at-l.ensures one two
+                (λ i. omega (arith, c.shared_slice_known-1.given i)),
+          );
+    }
 
 pub overflow_add-k-2 : goal.overflow_add-k-2
 overflow_add-k-2 c =

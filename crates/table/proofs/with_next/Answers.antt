@@ -39,5 +39,7 @@ pub returns : goal.returns
 returns c =
     let first = c.is_below-first.ensures _ _ c.requires.0 (first-low _ _ _ c.requires.0 c.requires.1 c.link_at-l.ensures) in
     let second = c.is_below.ensures _ _ c.requires.0 (second_low _ _ _ c.requires.0 c.requires.1 c.link_at-l.ensures) in
-    c.with_crossed.ensures _ (crossed _ _ _ c.requires.0 c.requires.1 c.link_at-l.ensures c.in_service.ensures (λ i. omega (arith, c.shared_slice_known-1.given i))
+    c.with_crossed.ensures _
+    (crossed _ _ _ c.requires.0 c.requires.1 c.link_at-l.ensures c.in_service.ensures
+    (λ i. omega (arith, c.shared_slice_known-1.given i))
     c.if-not-in_service.false c.parent_of.ensures c.if-parent_of-e.false first second c.if-first-is_below.false) c.requires.2

@@ -13,7 +13,8 @@ returns-then-c-search c =
 
 pub loop-k-preserved : goal.loop-k-preserved
 loop-k-preserved c =
-    ascend_more _ _ _ (λ i. omega (arith, c.shared_slice_known-1.given i)) _ _ _ c.loop-k.invariant (c.requires) c.loop-k-test.true c.if-c-search.false _ c.step-c.ensures
+    ascend_more _ _ _ (λ i. omega (arith, c.shared_slice_known-1.given i)) _ _ _ c.loop-k.invariant (c.requires)
+    c.loop-k-test.true c.if-c-search.false _ c.step-c.ensures
 
 pub returns : goal.returns
 returns c =
