@@ -1,12 +1,12 @@
 -- A file of bytes is accepted exactly when the network read is sound at edition 1's limits, the file is the one file of that
 -- network and depth, and the rows have room. Assumes nothing.
+use Rattle.std.specs.Prelude.{Err, Ok, Result}
 use mathlib.Core.Path.{◌≡◌, refl, sym, subst, ap, ap₂, ◌∙◌}
 use mathlib.Core.Bool.{false}
 use mathlib.Core.List.{List}
 use Prim.Native.Nat.{ℕ, ◌<◌}
 use lib.ListN.{get_or}
-use Rattle.edition.specs.declared.Verdict.{Verdict}
-use Rattle.edition.specs.declared.Verdict.TheVariants.{Taken, Refused}
+use Rattle.edition.specs.Refusals.{Verdict, taken}
 use Rattle.edition.specs.declared.Why.TheVariants.{NoRoom}
 use Rattle.edition.specs.Limits.{memory_limits, lowest_number}
 use Rattle.edition.specs.Stored.{edition_limits}
@@ -18,8 +18,7 @@ use Rattle.network.proofs.Sizes.{sizes_grow}
 use Rattle.sound.specs.Sound.{record_verdict, net_verdict}
 use Rattle.archive.specs.Writer.{file_of}
 use Rattle.archive.specs.declared.Header.{Header}
-use Rattle.archive.specs.declared.ReadAnswer.{ReadAnswer}
-use Rattle.archive.specs.declared.ReadAnswer.TheVariants.{Is, Not}
+use Rattle.edition.specs.declared.Refusal.{Refusal}
 use Rattle.archive.specs.Reader.{nodes_read, links_read, search_read, head_read, net_read, Rows, too_short, head_verdict, rest_verdict, read_verdict}
 use Rattle.archive.specs.Reader.{read_if, read_answer}
 use Rattle.archive.proofs.Reading.{nodes_read_lem, links_read_lem}
@@ -33,22 +32,22 @@ module _ (file : List ℕ) where
   rule_read = refl
 
   -- the rule of an answer, and 0 of a refusal
-  rule_in : ReadAnswer → ℕ
-  rule_in (Is head) = head.search.rule
-  rule_in (Not r) = lowest_number
+  rule_in : Result Header Refusal → ℕ
+  rule_in (Ok head) = head.search.rule
+  rule_in (Err r) = lowest_number
 
-  pub rule_answered : (rows : Rows) (head : Header) → read_answer file rows ≡ Is head → head.search.rule ≡ lowest_number
+  pub rule_answered : (rows : Rows) (head : Header) → read_answer file rows ≡ Ok head → head.search.rule ≡ lowest_number
   unfolding read_answer head_read search_read rule_in
   rule_answered rows head h = sym (ap rule_in h) ∙ go (read_verdict file rows)
     where
       go : (v : Verdict) → rule_in (read_if v (head_read file)) ≡ lowest_number
-      go Taken = refl
-      go (Refused r) = refl
+      go (Ok _) = refl
+      go (Err r) = refl
 
 -- the network read is sound at edition 1's limits, the file is the one file of that network and depth, and the rows have room
 pub record Accepted (file : List ℕ) (rows : Rows) : Type 0 where
-  pub sized : size_verdict edition_limits (net_read file).nodes (net_read file).links (net_read file).search ≡ Taken
-  pub recorded : record_verdict (net_read file) ≡ Taken
+  pub sized : size_verdict edition_limits (net_read file).nodes (net_read file).links (net_read file).search ≡ taken
+  pub recorded : record_verdict (net_read file) ≡ taken
   pub one : file ≡ file_of (net_read file)
   pub room : too_short (net_read file).nodes (net_read file).links rows ≡ false
 
@@ -58,7 +57,7 @@ module _ (file : List ℕ) (rows : Rows) where
   search_read_lem = refl
 
   -- a file of bytes that is taken is so
-  pub taken_accepted : ((i : ℕ) → get_or file i 0 < 256) → read_verdict file rows ≡ Taken → Accepted file rows
+  pub taken_accepted : ((i : ℕ) → get_or file i 0 < 256) → read_verdict file rows ≡ taken → Accepted file rows
   unfolding read_verdict head_verdict rest_verdict
   taken_accepted bytes h =
       let head = head_taken _ _ h in
@@ -77,12 +76,12 @@ module _ (file : List ℕ) (rows : Rows) where
       }
 
   -- and a file that is so is taken
-  pub accepted_taken : Accepted file rows → read_verdict file rows ≡ Taken
+  pub accepted_taken : Accepted file rows → read_verdict file rows ≡ taken
   unfolding net_verdict
   accepted_taken a =
       let g = net_read file in
-      let ok : net_verdict g ≡ Taken =
+      let ok : net_verdict g ≡ taken =
       both_taken _ _ (sizes_grow edition_limits memory_limits edition_within g.nodes g.links g.search a.sized)
       (both_taken _ _ a.recorded none_left) in
-      subst (λ (f : List ℕ). read_verdict f rows ≡ Taken) (sym a.one)
+      subst (λ (f : List ℕ). read_verdict f rows ≡ taken) (sym a.one)
       (all_accepted g ok a.sized (rule_read file) (ap net_read (sym a.one)) rows a.room)

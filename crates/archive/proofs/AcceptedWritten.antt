@@ -9,7 +9,7 @@ use lib.Dec.{eqb, leb, ltb}
 use lib.ListN.{length, get_or, take, drop, length-take, get_or-eq_default}
 use lib.Seq.{take_all, get_or-take, get_or-drop}
 use borrow.Author.Tests.{eqb-true, eqb-false, not-false, ltb-true, ltb-false, leb-false}
-use Rattle.edition.specs.declared.Verdict.TheVariants.{Taken}
+use Rattle.edition.specs.Refusals.{taken}
 use Rattle.edition.specs.declared.Why.TheVariants.{BadLength, BadEntry}
 use Rattle.edition.specs.Stored.{block_bytes, front_bytes, header_kind, links_kind, table_kind, link_bytes, entry_bytes, headers_a_block, links_a_block}
 use Rattle.edition.specs.Stored.{entries_a_block}
@@ -64,7 +64,7 @@ module _ (file : List ℕ) (bytes : (i : ℕ) → get_or file i 0 < 256) where
   -- a block that is taken, of which every record is the writer's, is the writer's
   block_records :
       (kind i used : ℕ) (f : ℕ → List ℕ)
-      → block_verdict kind i used (block_at file i) ≡ Taken
+      → block_verdict kind i used (block_at file i) ≡ taken
       → ((r : ℕ)
       → r < used → f r ≡ take (record_bytes kind) (drop (i * block_bytes + front_bytes + r * record_bytes kind) file))
       → block_at file i ≡ block kind i used (rows_to f used)
@@ -87,10 +87,10 @@ module _ (file : List ℕ) (bytes : (i : ℕ) → get_or file i 0 < 256) where
   -- what is known of a file that is taken
   record Whole : Type 0 where
     long : length file ≡ block_count n m * block_bytes
-    blocks : (i : ℕ) → i < block_count n m → block_refusal file n m i ≡ Taken
+    blocks : (i : ℕ) → i < block_count n m → block_refusal file n m i ≡ taken
     fresh : (x : ℕ) → x < n → take entry_bytes (drop (entry_place m x) file) ≡ entry_record ((net_read file).parent x) (entry (net_read file) x)
 
-  whole : (rows : Rows) → read_verdict file rows ≡ Taken → Whole
+  whole : (rows : Rows) → read_verdict file rows ≡ taken → Whole
   unfolding read_verdict rest_verdict bad_entry
   whole rows h =
       let rest = head_taken _ _ (rest-taken _ _ h) in
@@ -117,16 +117,16 @@ module _ (file : List ℕ) (bytes : (i : ℕ) → get_or file i 0 < 256) where
         ≡ block (part_at n m i).kind i (part_at n m i).used
         (rows_to (λ r. record_of (net_read file) (part_at n m i).kind ((part_at n m i).from + r)) (part_at n m i).used)
 
-    taken : block_verdict (part_at n m i).kind i (part_at n m i).used (block_at file i) ≡ Taken
+    is_taken : block_verdict (part_at n m i).kind i (part_at n m i).used (block_at file i) ≡ taken
     unfolding block_refusal
-    taken = w.blocks i there
+    is_taken = w.blocks i there
 
     header_same : eqb i 0 ≡ true → Same
     unfolding Same part_at part_of record_of record_bytes
     header_same e =
         let z : i ≡ 0 = eqb-true i 0 e in
         rw e
-        (block_records header_kind i headers_a_block (λ r. record_of (net_read file) header_kind (0 * headers_a_block + r)) (rw e at taken)
+        (block_records header_kind i headers_a_block (λ r. record_of (net_read file) header_kind (0 * headers_a_block + r)) (rw e at is_taken)
         (λ r l.
         let at : front_bytes ≡ i * block_bytes + front_bytes + r * 8 = omega (arith, z, l) in
         header_back file bytes (omega (arith, inside)) ∙ ap (λ (k : ℕ). take 8 (drop k file)) at))
@@ -137,7 +137,7 @@ module _ (file : List ℕ) (bytes : (i : ℕ) → get_or file i 0 < 256) where
         let some : 0 < i = omega (arith, eqb-false i 0 e) in
         rw (e, f)
         (block_records links_kind i (min links_a_block (m - (i - 1) * links_a_block))
-        (λ r. record_of (net_read file) links_kind ((i - 1) * links_a_block + r)) (rw (e, f) at taken)
+        (λ r. record_of (net_read file) links_kind ((i - 1) * links_a_block + r)) (rw (e, f) at is_taken)
         (λ r l.
         let at = link-place i r some (omega arith) in
         link_back file bytes ((i - 1) * links_a_block + r) (omega arith) (omega (arith, inside)) ∙ ap (λ (k : ℕ). take link_bytes (drop k file)) at))
@@ -148,7 +148,7 @@ module _ (file : List ℕ) (bytes : (i : ℕ) → get_or file i 0 < 256) where
         let past : link_blocks m < i = omega (arith, leb-false i (link_blocks m) f) in
         rw (e, f)
         (block_records table_kind i (min entries_a_block (n - (i - 1 - link_blocks m) * entries_a_block))
-        (λ r. record_of (net_read file) table_kind ((i - 1 - link_blocks m) * entries_a_block + r)) (rw (e, f) at taken)
+        (λ r. record_of (net_read file) table_kind ((i - 1 - link_blocks m) * entries_a_block + r)) (rw (e, f) at is_taken)
         (λ r l.
         let at = entry_place_lem m i r past (omega arith) in
         sym (w.fresh ((i - 1 - link_blocks m) * entries_a_block + r) (omega arith)) ∙ ap (λ (k : ℕ). take entry_bytes (drop k file)) at))
@@ -172,12 +172,12 @@ module _ (file : List ℕ) (bytes : (i : ℕ) → get_or file i 0 < 256) where
   -- each stored entry of a file that is taken is the one worked out
   pub accepted_fresh :
       (rows : Rows)
-      → read_verdict file rows ≡ Taken → (x : ℕ) → x < nodes_read file
+      → read_verdict file rows ≡ taken → (x : ℕ) → x < nodes_read file
       → take entry_bytes (drop (entry_place (links_read file) x) file) ≡ entry_record ((net_read file).parent x) (entry (net_read file) x)
   accepted_fresh rows h x l = (whole rows h).fresh x l
 
   -- a file of bytes that is taken is what the writer makes of what was read
-  pub accepted_is_written : (rows : Rows) → read_verdict file rows ≡ Taken → file ≡ file_of (net_read file)
+  pub accepted_is_written : (rows : Rows) → read_verdict file rows ≡ taken → file ≡ file_of (net_read file)
   unfolding file_of block_at
   accepted_is_written rows h =
       let w = whole rows h in
@@ -189,6 +189,6 @@ module _ (file : List ℕ) (bytes : (i : ℕ) → get_or file i 0 < 256) where
 -- two files of bytes that are taken, with one network, are one file
 pub one_file :
     (a b : List ℕ)
-    → ((i : ℕ) → get_or a i 0 < 256) → ((i : ℕ) → get_or b i 0 < 256) → (rows_a rows_b : Rows) → read_verdict a rows_a ≡ Taken
-    → read_verdict b rows_b ≡ Taken → net_read a ≡ net_read b → a ≡ b
+    → ((i : ℕ) → get_or a i 0 < 256) → ((i : ℕ) → get_or b i 0 < 256) → (rows_a rows_b : Rows) → read_verdict a rows_a ≡ taken
+    → read_verdict b rows_b ≡ taken → net_read a ≡ net_read b → a ≡ b
 one_file a b x y rows_a rows_b p q e = accepted_is_written a x rows_a p ∙ ap file_of e ∙ sym (accepted_is_written b y rows_b q)

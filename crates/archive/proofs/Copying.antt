@@ -1,10 +1,7 @@
 -- The table is copied, entry by entry, from the row in which it was worked out. Assumes nothing.
-use mathlib.Core.Path.{◌≡◌, refl, sym, ap, ap₂, ◌∙◌}
+use mathlib.Core.Path.{◌≡◌, refl, sym, ap, ◌∙◌}
 use mathlib.Core.List.{List, ◌++◌}
-use Prim.Native.Nat.{ℕ, ◌+◌, ◌<◌, ◌≤◌}
-use native.Mathlib.Omega.{arith}
-use lib.ListN.{length}
-use Rattle.edition.specs.declared.Entry.{Entry}
+use Prim.Native.Nat.{ℕ, ◌+◌, ◌<◌}
 use Rattle.rows.specs.Count.{rows_to}
 use Rattle.rows.specs.Records.{past_records}
 use Rattle.rows.proofs.Put as put
@@ -19,39 +16,17 @@ use Rattle.archive.specs.Reader.{nodes_read, head_read, net_read}
 use Rattle.archive.specs.Work.{Tabled, copied}
 use Rattle.archive.proofs.Reading.{nodes_read_lem}
 
--- what the loop over the entries keeps: the first k of n are copied
-pub record Copying (from : List ℕ) (n : ℕ) (before : List ℕ) (k : ℕ) (now : List ℕ) : Type 0 where
-  pub low : k ≤ n
-  pub room : n ≤ entries_in before
-  pub size : length now ≡ length before
-  pub is : now ≡ copied from k before
+-- the loop over the entries: none is copied at the start, and one more at each step
+pub copied_none : (from before : List ℕ) → before ≡ copied from 0 before
+unfolding copied rows_to past_entries past_records
+copied_none from before = refl
 
-module _ (from : List ℕ) (n : ℕ) (before : List ℕ) where
-  pub copy_start : n ≤ entries_in before → Copying from n before 0 before
-  unfolding copied rows_to past_entries past_records
-  copy_start h = record { low = omega arith; room = h; size = refl; is = refl }
-
-  module _ (k : ℕ) (now : List ℕ) (s : Copying from n before k now) where
-    pub copy_more :
-        k < n
-        → (e : Entry) → e ≡ entry_at from k → (after : List ℕ) → length after ≡ length now → after ≡ put_entry now k e
-        → Copying from n before (k + 1) after
-    unfolding copied put_entry past_entries
-    copy_more h e q after z p =
-        record {
-          low = omega arith;
-          room = s.room;
-          size = z ∙ s.size;
-          is =
-              p
-              ∙ (ap₂ (λ (r : List ℕ) (x : Entry). put_entry r k x) s.is q
-              ∙ put.put_next _ (λ x. entry_row (entry_at from x)) k (λ x. entry-sized (entry_at from x)) before (omega (arith, h, s.room)));
-        }
-
-    pub copy_end : n ≤ k → now ≡ copied from n before
-    copy_end h =
-        let q : k ≡ n = omega (arith, s.low) in
-        s.is ∙ ap (λ (i : ℕ). copied from i before) q
+pub copied_more :
+    (from before : List ℕ) (k : ℕ)
+    → k < entries_in before
+    → put_entry (copied from k before) k (entry_at from k) ≡ copied from (k + 1) before
+unfolding copied put_entry past_entries
+copied_more from before k h = put.put_next _ (λ x. entry_row (entry_at from x)) k (λ x. entry-sized (entry_at from x)) before h
 
 -- of the row in which the table of a file was worked out
 module _ (file worked : List ℕ) (t : Tabled (net_read file) worked) (head : Header) (h : head ≡ head_read file) where

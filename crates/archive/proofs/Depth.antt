@@ -8,7 +8,7 @@ use Prim.Native.Nat.{ℕ, ◌<◌, ◌≤◌}
 use lib.Dec.{eqb, leb, ltb}
 use lib.ListN.{get_or, take, drop}
 use borrow.Author.Tests.{eqb-true, eqb-false, ltb-false, not-false}
-use Rattle.edition.specs.declared.Verdict.TheVariants.{Taken}
+use Rattle.edition.specs.Refusals.{taken}
 use Rattle.edition.specs.declared.Why.TheVariants.{BadDepth}
 use Rattle.edition.specs.Limits.{whole_search}
 use Rattle.edition.specs.Stored.{stored_depth, edition_limits, entry_bytes}
@@ -59,7 +59,7 @@ searched g h = go (eqb g.search.depth whole_search) refl
 -- the two bytes of an accepted file's depth field are the depth of its entries, and say one of two things
 pub depth_says :
     (file : List ℕ)
-    → ((i : ℕ) → get_or file i 0 < 256) → (rows : Rows) → read_verdict file rows ≡ Taken
+    → ((i : ℕ) → get_or file i 0 < 256) → (rows : Rows) → read_verdict file rows ≡ taken
     → ((net_read file).search.depth ≡ number_in file 14 2)
     × ((x : ℕ)
     → x < nodes_read file

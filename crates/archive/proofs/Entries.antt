@@ -1,4 +1,5 @@
 -- The stored entries of a file, compared with those worked out. Assumes nothing.
+use Rattle.std.specs.Prelude.{Err, Option}
 use mathlib.Core.Path.{◌≡◌, sym, subst, ap, ap₂, ◌∙◌}
 use mathlib.Core.Bool.{Bool, not}
 use mathlib.Core.List.{List, ◌++◌, append-nil}
@@ -7,11 +8,9 @@ use native.Mathlib.Omega.{arith}
 use lib.ListN.{length, get_or, take, drop, replicate, length-replicate, drop_of_length-le}
 use lib.Seq.{sets-eq}
 use Rattle.edition.specs.declared.Entry.{Entry}
-use Rattle.edition.specs.declared.Found.{Found}
 use Rattle.edition.specs.declared.Search.{Search}
 use Rattle.edition.specs.declared.Refusal.{Refusal}
-use Rattle.edition.specs.declared.Verdict.{Verdict}
-use Rattle.edition.specs.declared.Verdict.TheVariants.{Taken, Refused}
+use Rattle.edition.specs.Refusals.{Verdict, taken}
 use Rattle.edition.specs.declared.Why.TheVariants.{NoRoom, BadEntry}
 use Rattle.rows.proofs.Refusing.{head_refuses, head_passes, only_one}
 use Rattle.edition.specs.Limits.{no_link}
@@ -79,22 +78,22 @@ module _ (file links parents : List ℕ) (search : Search) (short : Bool) where
       ∙ table-entry g t.more x l))
 
   -- the checks of the content in their order
-  refused_judged : (v : Verdict) (r : Refusal) → v ≡ Refused r → content_verdict file g short ≡ Refused r → (row : List ℕ) → Judged file g short v row
+  refused_judged : (v : Verdict) (r : Refusal) → v ≡ Err r → content_verdict file g short ≡ Err r → (row : List ℕ) → Judged file g short v row
   refused_judged v r t e row =
       record { is = t ∙ sym e; tabled = λ ok. let clash : ◌≡◌ {A = ℕ} 0 1 = cc in absurd (omega arith) }
 
-  pub net_judged : (v : Verdict) → v ≡ net_verdict g → (r : Refusal) → v ≡ Refused r → (row : List ℕ) → Judged file g short v row
+  pub net_judged : (v : Verdict) → v ≡ net_verdict g → (r : Refusal) → v ≡ Err r → (row : List ℕ) → Judged file g short v row
   unfolding content_verdict
   net_judged v q r t row = refused_judged v r t (head_refuses _ _ r (sym q ∙ t)) row
 
   module _ (worked : List ℕ) (t : Tabled g worked) (w : Verdict) (wis : w ≡ refuse_if short NoRoom 0) where
-    pub room_judged : (r : Refusal) → w ≡ Refused r → Judged file g short w worked
+    pub room_judged : (r : Refusal) → w ≡ Err r → Judged file g short w worked
     unfolding content_verdict
     room_judged r q = refused_judged w r q (head_passes _ _ t.ok ∙ head_refuses _ _ r (sym wis ∙ q)) worked
 
     pub entries_judged :
-        w ≡ Taken
-        → (m : ℕ) → m ≡ links_in links → (f : Found) → f ≡ first_to (bad_by file m parents worked) (length parents) → (x : Verdict)
+        w ≡ taken
+        → (m : ℕ) → m ≡ links_in links → (f : Option ℕ) → f ≡ first_to (bad_by file m parents worked) (length parents) → (x : Verdict)
         → x ≡ refused_at BadEntry f → Judged file g short x worked
     unfolding content_verdict refuse_at net_of
     entries_judged o m c f e x q =

@@ -1,25 +1,25 @@
 -- The rows that a file holds are those that are read from it. Assumes nothing.
 use mathlib.Core.Path.{◌≡◌, refl, sym, subst, ap, ◌∙◌}
 use mathlib.Core.Bool.{Bool}
-use mathlib.Core.List.{List, [], ◌∷◌, ◌++◌}
-use Prim.Native.Nat.{ℕ, ◌+◌, ◌*◌, ◌<◌, ◌≤◌}
+use mathlib.Core.List.{List, [], ◌∷◌, ◌++◌, append-nil}
+use Prim.Native.Nat.{ℕ, ◌+◌, ◌-◌, ◌*◌, ◌<◌, ◌≤◌}
 use native.Mathlib.Omega.{arith}
-use lib.ListN.{length, take, drop, replicate, length-replicate}
-use lib.Seq.{take_at}
-use Rattle.edition.specs.declared.Verdict.{Verdict}
+use lib.ListN.{length, take, drop, replicate, length-replicate, drop_of_length-le}
+use lib.Seq.{take_at, length-take-le}
+use borrow.Rule.Slice.PartMut.{put_mid}
+use Rattle.edition.specs.Refusals.{Verdict}
 use Rattle.edition.specs.Limits.{node_limit, link_room}
 use Rattle.edition.proofs.Within.{edition_within}
 use Rattle.edition.specs.Stored.{stored_nodes, stored_links, edition_limits, block_bytes, entry_bytes}
 use Rattle.rows.specs.Count.{rows_to, row_with}
 use Rattle.rows.proofs.Records.{rows_length}
 use Rattle.rows.specs.Records.{past_records}
-use Rattle.network.specs.declared.Link.{Link}
 use Rattle.network.specs.Network.{Net, links_in, link_row, put_link, front_links, past_links, net_of}
 use Rattle.network.proofs.Keeping.{rows_first, put_next}
 use Rattle.network.proofs.Sizes.{sized-nodes, sized-links}
 use Rattle.numbers.specs.Bytes.{number_in}
 use Rattle.archive.specs.declared.Header.{Header}
-use Rattle.archive.specs.Parts.{blocks_for, block_count, link_place, entry_place}
+use Rattle.archive.specs.Parts.{blocks_for, block_count, entry_place}
 use Rattle.archive.specs.Reader.{nodes_read, links_read, search_read, head_read, stored_link, links_held, parents_held, net_read}
 use Rattle.archive.specs.Work.{links_from, parent_number, Placed, Blocked, Judged}
 use Rattle.archive.proofs.Reading.{nodes_read_lem, links_read_lem}
@@ -133,50 +133,27 @@ module _ (file : List ℕ) (head : Header) (b : Blocked file head) where
       pub entries-placed : Placed file (links_in part) (length part')
       entries-placed = placed_rows (links_in part) (ap links_in part_is ∙ links_of_lem file) (length part') (ap length part_is' ∙ nodes_of_lem file)
 
--- a stored link, as its numbers are read
-pub link-is :
-    (file : List ℕ) (e at : ℕ)
-    → at ≡ link_place e → (a : ℕ) → a ≡ number_in file at 2 → (b : ℕ) → b ≡ number_in file (at + 2) 2 → (c : ℕ)
-    → c ≡ number_in file (at + 4) 2 → (d : ℕ) → d ≡ number_in file (at + 6) 2
-    → ◌≡◌ {A = Link} (record { first = a; second = b; length = c; mark = d }) (stored_link file e)
-unfolding stored_link
-link-is file e at q a p b r c s d t =
-    let move : (k : ℕ) → number_in file (at + k) 2 ≡ number_in file (link_place e + k) 2 = λ k. ap (λ (i : ℕ). number_in file (i + k) 2) q in
-    λ i.
-    record {
-      first = (p ∙ ap (λ (i : ℕ). number_in file i 2) q) i;
-      second = (r ∙ move 2) i;
-      length = (s ∙ move 4) i;
-      mark = (t ∙ move 6) i;
-    }
+-- the loop over the links: none is put at the start, and one more at each step
+pub links_none : (file before : List ℕ) → before ≡ links_from file 0 before
+unfolding links_from rows_to past_links past_records
+links_none file before = refl
 
--- what the loop over the links keeps: the first k of m are put
-pub record Linking (file : List ℕ) (m : ℕ) (before : List ℕ) (k : ℕ) (now : List ℕ) : Type 0 where
-  pub low : k ≤ m
-  pub room : m ≤ links_in before
-  pub size : length now ≡ length before
-  pub is : now ≡ links_from file k before
+pub links_more :
+    (file before : List ℕ) (k : ℕ)
+    → k < links_in before
+    → put_link (links_from file k before) k (stored_link file k) ≡ links_from file (k + 1) before
+unfolding links_from
+links_more file before k h = put_next (stored_link file) k before h (stored_link file k) refl
 
-module _ (file : List ℕ) (m : ℕ) (before : List ℕ) where
-  pub linking_start : m ≤ links_in before → Linking file m before 0 before
-  unfolding links_from rows_to past_links past_records
-  linking_start h = record { low = omega arith; room = h; size = refl; is = refl }
+-- the loop over the parents: it writes the part of a row that holds them
+module _ (n : ℕ) (row : List ℕ) (room : n ≤ length row) where
+  pub part-long : length (take (n - 0) row) ≡ n
+  part-long = length-take-le (n - 0) row (omega arith) ∙ omega arith
 
-  module _ (k : ℕ) (now : List ℕ) (s : Linking file m before k now) where
-    pub linking_more :
-        k < m
-        → (l : Link) → l ≡ stored_link file k → (after : List ℕ) → length after ≡ length now → after ≡ put_link now k l
-        → Linking file m before (k + 1) after
-    unfolding links_from
-    linking_more h l e after z p =
-        record {
-          low = omega arith;
-          room = s.room;
-          size = z ∙ s.size;
-          is = p ∙ (ap (λ (r : List ℕ). put_link r k l) s.is ∙ put_next (stored_link file) k before (omega (arith, h, s.room)) l e);
-        }
-
-    pub linking_end : m ≤ k → now ≡ links_from file m before
-    linking_end h =
-        let q : k ≡ m = omega (arith, s.low) in
-        s.is ∙ ap (λ (i : ℕ). links_from file i before) q
+  pub part_written : (f : ℕ → ℕ) (now : List ℕ) → now ≡ row_with f n (take (n - 0) row) → put_mid 0 (n - 0) row now ≡ row_with f n row
+  unfolding row_with
+  part_written f now q =
+      let none = drop_of_length-le (take (n - 0) row) {i = n} (omega (arith, part-long)) in
+      let k : n - 0 ≡ n = omega arith in
+      ap (λ (x : List ℕ). x ++ drop (n - 0) row) (q ∙ ap (λ (x : List ℕ). rows_to (λ u. f u ∷ []) n ++ x) none ∙ append-nil _)
+      ∙ ap (λ (i : ℕ). rows_to (λ u. f u ∷ []) n ++ drop i row) k

@@ -11,7 +11,6 @@ pub mod Laying
 pub mod Parting
 pub mod AcceptedRows
 pub mod Copying
-pub mod Records
 pub mod Pieces
 pub mod Reading
 pub mod AcceptedWritten

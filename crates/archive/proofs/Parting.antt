@@ -1,10 +1,9 @@
 -- The parts of a file: how many blocks there are at most, a part as it is made, and what is known of each. Assumes nothing.
-use mathlib.Core.Path.{◌≡◌, refl, sym, subst, ap, ◌∙◌}
+use mathlib.Core.Path.{◌≡◌, refl, sym, subst}
 use mathlib.Core.Bool.{Bool, true, false, cond}
 use mathlib.Core.List.{List}
 use Prim.Native.Nat.{ℕ, ◌+◌, ◌-◌, ◌*◌, ◌<◌, ◌≤◌, min}
 use native.Mathlib.Omega.{arith}
-use native.Mathlib.Nat.{div-le_self, mul-le-mul}
 use lib.Dec.{eqb, leb}
 use lib.ListN.{length}
 use borrow.Author.Tests.{eqb-true, eqb-false, ne_eqb, leb-true, leb-false, le-ltb}
@@ -12,25 +11,10 @@ use Rattle.edition.specs.Limits.{node_limit, link_limit}
 use Rattle.edition.specs.Stored.{payload_bytes, header_kind, links_kind, table_kind, header_bytes, link_bytes, entry_bytes, headers_a_block, links_a_block}
 use Rattle.edition.specs.Stored.{entries_a_block}
 use Rattle.rows.proofs.Tests.{clash}
-use Rattle.numbers.specs.Bytes.{word_most}
 use Rattle.block.specs.Block.{capacity, record_bytes, no_such_block}
 use Rattle.archive.specs.declared.Part.{Part}
 use Rattle.archive.specs.Parts.{blocks_for, link_blocks, block_count, part_of, part_at}
 use Rattle.archive.specs.Work.{held_bytes}
-
-pub some_blocks : (each c r : ℕ) → r ≡ blocks_for each c → c ≤ word_most → r ≤ c + each
-unfolding blocks_for
-some_blocks each c r q l = omega (arith, q, div-le_self (c + (each - 1)) each)
-
-pub part_made :
-    (kind each c j left : ℕ)
-    → left ≡ c - j * each → (used : ℕ) → used ≡ min each left
-    → record { kind = kind; from = j * each; used = used } ≡ part_of kind each c j
-unfolding part_of
-part_made kind each c j left p used q = λ i. record { kind = kind; from = j * each; used = (q ∙ ap (min each) p) i }
-
-pub product_small : (a b : ℕ) → a ≤ word_most → b ≤ word_most → a * b ≤ word_most * word_most
-product_small a b l m = mul-le-mul l m
 
 -- a part of a file is the header's, one of links or one of entries
 pub by_part :

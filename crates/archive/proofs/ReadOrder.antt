@@ -1,5 +1,6 @@
 -- The order of the refusals of a file. Assumes nothing.
-use mathlib.Core.Path.{◌≡◌, refl, sym, ap, ap₂, ◌∙◌}
+use Rattle.std.specs.Prelude.{Err, Ok}
+use mathlib.Core.Path.{◌≡◌, refl, sym, ap, ◌∙◌}
 use mathlib.Core.Bool.{Bool, not}
 use mathlib.Core.List.{List, [], ◌∷◌}
 use Prim.Native.Nat.{ℕ, ◌*◌, ◌≤◌}
@@ -8,13 +9,12 @@ use lib.Dec.{eqb}
 use lib.ListN.{length}
 use borrow.Author.Tests.{eqb-true, not-false}
 use Rattle.edition.specs.declared.Refusal.{Refusal}
-use Rattle.edition.specs.declared.Verdict.{Verdict}
-use Rattle.edition.specs.declared.Verdict.TheVariants.{Taken, Refused}
+use Rattle.edition.specs.Refusals.{Verdict, taken}
 use Rattle.edition.specs.declared.Why.TheVariants.{BadLength, NoRoom, BadEntry}
 use Rattle.edition.specs.Limits.{memory_limits}
 use Rattle.edition.proofs.Within.{edition_within}
 use Rattle.edition.specs.Stored.{stored_nodes, stored_links, edition_limits, block_bytes}
-use Rattle.rows.specs.First.{refuse_if, refuse_at, firstly, verdict_to}
+use Rattle.rows.specs.First.{refuse_if, refuse_at, firstly}
 use Rattle.rows.proofs.Refusing.{head_taken, rest-taken, head_refuses, head_passes, only_one, if_taken_lem}
 use Rattle.network.specs.Network.{net_of}
 use Rattle.network.specs.Records.{size_verdict}
@@ -23,8 +23,7 @@ use Rattle.sound.specs.Sound.{record_verdict, net_verdict}
 use Rattle.numbers.specs.Bytes.{word_most}
 use Rattle.archive.specs.declared.Header.{Header}
 use Rattle.archive.specs.Parts.{block_count}
-use Rattle.archive.specs.Reader.{nodes_read, links_read, search_read, head_read, net_read, block_refusal, bad_entry, Rows, too_short, head_verdict}
-use Rattle.archive.specs.Reader.{rest_verdict, read_verdict}
+use Rattle.archive.specs.Reader.{nodes_read, links_read, search_read, head_read, net_read, bad_entry, Rows, too_short, head_verdict, rest_verdict, read_verdict}
 use Rattle.archive.specs.Work.{Blocked, bad_stored, content_verdict, blocks_verdict}
 use Rattle.archive.proofs.Reading.{nodes_read_lem, links_read_lem}
 
@@ -34,45 +33,45 @@ together :
     → firstly (a ∷ firstly (b ∷ c ∷ rest) ∷ [])
     ≡ firstly (firstly (a ∷ b ∷ c ∷ []) ∷ firstly rest ∷ [])
 unfolding firstly
-together Taken Taken Taken rest = refl
-together Taken Taken (Refused r) rest = refl
-together Taken (Refused r) c rest = refl
-together (Refused r) b c rest = refl
+together (Ok _) (Ok _) (Ok _) rest = refl
+together (Ok _) (Ok _) (Err r) rest = refl
+together (Ok _) (Err r) c rest = refl
+together (Err r) b c rest = refl
 
-pub sizes_taken : (file : List ℕ) → head_verdict file ≡ Taken → size_verdict edition_limits (nodes_read file) (links_read file) (search_read file) ≡ Taken
+pub sizes_taken : (file : List ℕ) → head_verdict file ≡ taken → size_verdict edition_limits (nodes_read file) (links_read file) (search_read file) ≡ taken
 unfolding head_verdict
 sizes_taken file t = head_taken _ _ (rest-taken _ _ (rest-taken _ _ t))
 
-few-nodes : (file : List ℕ) → head_verdict file ≡ Taken → nodes_read file ≤ stored_nodes
+few-nodes : (file : List ℕ) → head_verdict file ≡ taken → nodes_read file ≤ stored_nodes
 few-nodes file t = sized-nodes edition_limits _ _ _ (sizes_taken file t)
 
-few-links : (file : List ℕ) → head_verdict file ≡ Taken → links_read file ≤ stored_links
+few-links : (file : List ℕ) → head_verdict file ≡ taken → links_read file ≤ stored_links
 few-links file t = sized-links edition_limits _ _ _ (sizes_taken file t)
 
 searched :
     (file : List ℕ)
-    → size_verdict edition_limits (nodes_read file) (links_read file) (search_read file) ≡ Taken
-    → size_verdict edition_limits (nodes_read file) (links_read file) (net_read file).search ≡ Taken
+    → size_verdict edition_limits (nodes_read file) (links_read file) (search_read file) ≡ taken
+    → size_verdict edition_limits (nodes_read file) (links_read file) (net_read file).search ≡ taken
 unfolding net_read net_of
 searched file t = t
 
 size_read :
     (file : List ℕ)
-    → size_verdict edition_limits (nodes_read file) (links_read file) (search_read file) ≡ Taken
-    → size_verdict memory_limits (net_read file).nodes (net_read file).links (net_read file).search ≡ Taken
+    → size_verdict edition_limits (nodes_read file) (links_read file) (search_read file) ≡ taken
+    → size_verdict memory_limits (net_read file).nodes (net_read file).links (net_read file).search ≡ taken
 size_read file t =
     sizes_grow edition_limits memory_limits edition_within (net_read file).nodes (net_read file).links (net_read file).search
     (rw (nodes_read_lem file, links_read_lem file) (searched file t))
 
 -- 1 to 4 are asked of the head already, at edition 1's limits, which are within memory's
-pub records_alone : (file : List ℕ) → head_verdict file ≡ Taken → net_verdict (net_read file) ≡ record_verdict (net_read file)
+pub records_alone : (file : List ℕ) → head_verdict file ≡ taken → net_verdict (net_read file) ≡ record_verdict (net_read file)
 unfolding net_verdict
 records_alone file t = head_passes _ _ (size_read file (sizes_taken file t)) ∙ only_one _
 
 -- the content of a file whose head is taken
 content_decides :
     (file : List ℕ) (short : Bool)
-    → head_verdict file ≡ Taken
+    → head_verdict file ≡ taken
     → content_verdict file (net_read file) short
     ≡ firstly
     (record_verdict (net_read file) ∷ refuse_if short NoRoom 0 ∷ refuse_at (bad_entry file) (nodes_read file) BadEntry ∷
@@ -82,15 +81,11 @@ content_decides file short t =
     ap (λ (v : Verdict). firstly (v ∷ refuse_if short NoRoom 0 ∷ refuse_at (bad_entry file) (net_read file).nodes BadEntry ∷ [])) (records_alone file t)
     ∙ ap (λ (k : ℕ). firstly (record_verdict (net_read file) ∷ refuse_if short NoRoom 0 ∷ refuse_at (bad_entry file) k BadEntry ∷ [])) (nodes_read_lem file)
 
--- the verdict on head, length and blocks, check by check
+-- the sizes of a file whose head is taken, and its blocks where its length is
 module _ (file : List ℕ) (v : Verdict) (is : v ≡ head_verdict file) where
-  pub head_decides : (r : Refusal) → v ≡ Refused r → v ≡ blocks_verdict file
-  unfolding blocks_verdict
-  head_decides r t = t ∙ sym (head_refuses _ _ r (sym is ∙ t))
-
-  module _ (ok : v ≡ Taken) (head : Header) (h : head ≡ head_read file) where
-    taken : head_verdict file ≡ Taken
-    taken = sym is ∙ ok
+  module _ (ok : v ≡ taken) (head : Header) (h : head ≡ head_read file) where
+    is_taken : head_verdict file ≡ taken
+    is_taken = sym is ∙ ok
 
     nodes-is : head.nodes ≡ nodes_read file
     unfolding head_read
@@ -101,35 +96,15 @@ module _ (file : List ℕ) (v : Verdict) (is : v ≡ head_verdict file) where
     links-is = ap (λ (k : Header). k.links) h
 
     pub small_sizes : (head.nodes ≤ word_most) × (head.links ≤ word_most)
-    small_sizes = (omega (arith, nodes-is, few-nodes file taken), omega (arith, links-is, few-links file taken))
+    small_sizes = (omega (arith, nodes-is, few-nodes file is_taken), omega (arith, links-is, few-links file is_taken))
 
-    module _ (k : ℕ) (e : k ≡ block_count head.nodes head.links * block_bytes) (w : Verdict)
-        (wis : w ≡ refuse_if (not (eqb (length file) k)) BadLength 0) where
-      size_is : k ≡ block_count (nodes_read file) (links_read file) * block_bytes
-      size_is = e ∙ ap₂ (λ (a b : ℕ). block_count a b * block_bytes) nodes-is links-is
+    pub blocks_there :
+        (k : ℕ)
+        → k ≡ block_count head.nodes head.links * block_bytes → (w : Verdict) → w ≡ refuse_if (not (eqb (length file) k)) BadLength 0
+        → w ≡ taken → block_count head.nodes head.links * block_bytes ≤ length file
+    blocks_there k e w wis long = omega (arith, eqb-true (length file) k (not-false _ (if_taken_lem _ BadLength 0 (sym wis ∙ long))), e)
 
-      length-is : w ≡ refuse_if (not (eqb (length file) (block_count (nodes_read file) (links_read file) * block_bytes))) BadLength 0
-      length-is = wis ∙ ap (λ (j : ℕ). refuse_if (not (eqb (length file) j)) BadLength 0) size_is
-
-      pub length_decides : (r : Refusal) → w ≡ Refused r → w ≡ blocks_verdict file
-      unfolding blocks_verdict
-      length_decides r t = t ∙ sym (head_passes _ _ taken ∙ head_refuses _ _ r (sym length-is ∙ t))
-
-      module _ (long : w ≡ Taken) where
-        pub blocks_there : block_count head.nodes head.links * block_bytes ≤ length file
-        blocks_there = omega (arith, eqb-true (length file) k (not-false _ (if_taken_lem _ BadLength 0 (sym wis ∙ long))), e)
-
-        pub blocks_decide :
-            (x : Verdict)
-            → x ≡ verdict_to (block_refusal file head.nodes head.links) (block_count head.nodes head.links)
-            → x ≡ blocks_verdict file
-        unfolding blocks_verdict
-        blocks_decide x xis =
-            xis
-            ∙ (ap₂ (λ (a b : ℕ). verdict_to (block_refusal file a b) (block_count a b)) nodes-is links-is
-            ∙ sym (head_passes _ _ taken ∙ (head_passes _ _ (sym length-is ∙ long) ∙ only_one _)))
-
--- that verdict, and the records behind it
+-- the verdict on head, length and blocks, and the records behind it
 module _ (file : List ℕ) (rows : Rows) where
   in_order :
       read_verdict file rows
@@ -142,14 +117,14 @@ module _ (file : List ℕ) (rows : Rows) where
   unfolding read_verdict rest_verdict blocks_verdict
   in_order = together _ _ _ _
 
-  pub blocks_passed : read_verdict file rows ≡ Taken → blocks_verdict file ≡ Taken
+  pub blocks_passed : read_verdict file rows ≡ taken → blocks_verdict file ≡ taken
   blocks_passed t = head_taken _ _ (sym in_order ∙ t)
 
-  pub blocks_refuse : (v : Verdict) → v ≡ blocks_verdict file → (r : Refusal) → v ≡ Refused r → v ≡ read_verdict file rows
+  pub blocks_refuse : (v : Verdict) → v ≡ blocks_verdict file → (r : Refusal) → v ≡ Err r → v ≡ read_verdict file rows
   blocks_refuse v is r t = t ∙ sym (in_order ∙ head_refuses _ _ r (sym is ∙ t))
 
-module _ (file : List ℕ) (t : blocks_verdict file ≡ Taken) (head : Header) (h : head ≡ head_read file) where
-  head_passed : head_verdict file ≡ Taken
+module _ (file : List ℕ) (t : blocks_verdict file ≡ taken) (head : Header) (h : head ≡ head_read file) where
+  head_passed : head_verdict file ≡ taken
   unfolding blocks_verdict
   head_passed = head_taken _ _ t
 

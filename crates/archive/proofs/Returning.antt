@@ -12,7 +12,7 @@ use borrow.Author.Tests.{eqb-true, not-false}
 use Rattle.edition.specs.declared.Entry.{Entry}
 use Rattle.edition.specs.declared.Search.{Search}
 use Rattle.edition.specs.declared.Aim.{Aim}
-use Rattle.edition.specs.declared.Verdict.TheVariants.{Taken}
+use Rattle.edition.specs.Refusals.{taken}
 use Rattle.edition.specs.Limits.{no_link, whole_search, lowest_number, longest}
 use Rattle.edition.specs.Stored.{by_number, header_bytes, link_bytes, entry_bytes}
 use Rattle.rows.specs.Count.{rows_to}
@@ -60,7 +60,7 @@ parent_of_entry : (u : ℕ) (e : Entry) → u ≤ word_most → number_in (entry
 unfolding entry_record bytes_of number_in
 parent_of_entry u e h = omega arith
 
-module _ (g : Net) (ok : net_verdict g ≡ Taken) where
+module _ (g : Net) (ok : net_verdict g ≡ taken) where
   depth_small : g.search.depth ≤ word_most
   depth_small = go (eqb g.search.depth whole_search) refl
     where
@@ -136,7 +136,7 @@ module _ (g : Net) (ok : net_verdict g ≡ Taken) where
       }
 
 -- a sound network of lent rows, whose numbers have 16 bits
-module _ (links parents : List ℕ) (aim : Aim) (ok : net_verdict (net_of links parents (by_number aim)) ≡ Taken)
+module _ (links parents : List ℕ) (aim : Aim) (ok : net_verdict (net_of links parents (by_number aim)) ≡ taken)
     (held : (i : ℕ) → get_or links i 0 ≤ longest) where
   abbrev g : Net
   g = net_of links parents (by_number aim)

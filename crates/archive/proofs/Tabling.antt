@@ -2,8 +2,7 @@
 use mathlib.Core.Path.{◌≡◌, refl, sym, ap, ◌∙◌}
 use mathlib.Core.List.{List}
 use Prim.Native.Nat.{ℕ}
-use Rattle.edition.specs.declared.Verdict.{Verdict}
-use Rattle.edition.specs.declared.Verdict.TheVariants.{Taken}
+use Rattle.edition.specs.Refusals.{Verdict, taken}
 use Rattle.entries.specs.Row.{past_entries}
 use Rattle.network.specs.Network.{Net}
 use Rattle.sound.specs.Sound.{net_verdict}
@@ -18,7 +17,7 @@ module _ (g : Net) (before : List ℕ) (bare : before ≡ bare_row) (v : Verdict
   pub bare_net : v ≡ net_verdict g
   bare_net = said ∙ bare_verdict g (net_verdict g) refl
 
-  pub bare_tabled : v ≡ Taken → (row : List ℕ) → row ≡ table_row g before → Tabled g row
+  pub bare_tabled : v ≡ taken → (row : List ℕ) → row ≡ table_row g before → Tabled g row
   unfolding table_row
   bare_tabled t row p =
       record {

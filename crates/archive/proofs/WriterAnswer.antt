@@ -1,23 +1,21 @@
 -- The file of a sound network: its size, and what the writer answers. Assumes nothing.
-use mathlib.Core.Path.{◌≡◌, refl, subst, ap, ap₂, ◌∙◌}
-use mathlib.Core.Bool.{true, false}
+use Rattle.std.specs.Prelude.{Err, Ok, Result}
+use mathlib.Core.Path.{◌≡◌, refl, sym, subst, ap, ap₂, ◌∙◌}
 use mathlib.Core.List.{List, ◌++◌}
-use Prim.Native.Nat.{ℕ, ◌+◌, ◌*◌, ◌<◌, ◌≤◌}
+use Prim.Native.Nat.{ℕ, ◌*◌, ◌<◌, ◌≤◌}
 use native.Mathlib.Omega.{arith}
 use lib.Dec.{ltb}
 use lib.ListN.{length, drop}
 use Rattle.edition.specs.declared.Search.{Search}
 use Rattle.edition.specs.declared.Aim.{Aim}
-use Rattle.edition.specs.declared.Verdict.{Verdict}
-use Rattle.edition.specs.declared.Verdict.TheVariants.{Taken, Refused}
+use Rattle.edition.specs.Refusals.{Verdict, taken}
 use Rattle.edition.specs.Stored.{stored_nodes, stored_links, edition_limits, by_number, block_bytes, block_limit}
 use Rattle.rows.specs.Count.{rows_to}
 use Rattle.network.specs.Network.{Net, links_in, net_of}
 use Rattle.network.specs.Records.{size_verdict}
 use Rattle.network.proofs.Sizes.{sized-nodes, sized-links}
 use Rattle.sound.specs.declared.Sizes.{Sizes}
-use Rattle.sound.specs.declared.Checked.{Checked}
-use Rattle.sound.specs.declared.Checked.TheVariants.{Sound}
+use Rattle.edition.specs.declared.Refusal.{Refusal}
 use Rattle.sound.specs.Sound.{net_verdict, checked}
 use Rattle.sound.proofs.Handing.{sound_told, handed_then}
 use Rattle.sound.proofs.Sounds.{sound}
@@ -27,14 +25,11 @@ use Rattle.archive.proofs.FileContents.{block_size}
 use Rattle.archive.specs.Parts.{blocks_for, block_count}
 use Rattle.archive.specs.Work.{Tabled}
 use Rattle.archive.specs.Writer.{block_of, file_of, file_length, write_verdict, write_answer, written_row}
-use Rattle.archive.specs.declared.WriteAnswer.{WriteAnswer}
-use Rattle.archive.specs.declared.WriteAnswer.TheVariants.{Is, Not}
-use Rattle.edition.specs.declared.Refusal.{Refusal}
 use Rattle.edition.specs.declared.Why.TheVariants.{NoRoom}
 use Rattle.edition.specs.Limits.{node_limit, link_limit}
 use Rattle.rows.specs.First.{refuse_if}
-use Rattle.rows.proofs.Refusing.{head_refuses, head_passes, only_one}
-use borrow.Author.Tests.{lt-ltb, le-ltb}
+use Rattle.rows.proofs.Refusing.{head_refuses, head_passes, only_one, if_taken_lem}
+use borrow.Author.Tests.{ltb-false}
 
 -- how many blocks there can be
 pub few_blocks : (n m r : ℕ) → r ≡ block_count n m → n ≤ word_most → m ≤ word_most → r ≤ word_most
@@ -51,21 +46,14 @@ unfolding block_count blocks_for
 blocks_reached = refl
 
 -- so it is no longer than 32,256 bytes
-pub file_limited : (g : Net) → size_verdict edition_limits g.nodes g.links g.search ≡ Taken → file_length g ≤ block_limit * block_bytes
+pub file_limited : (g : Net) → size_verdict edition_limits g.nodes g.links g.search ≡ taken → file_length g ≤ block_limit * block_bytes
 unfolding file_length
 file_limited g t =
     omega (arith, blocks_limited g.nodes g.links (sized-nodes edition_limits _ _ _ t) (sized-links edition_limits _ _ _ t))
 
 -- the number of blocks as the code has it
-module _ (n m i k : ℕ) {l : ℕ} (q : m ≡ l) (p : k ≡ block_count n m) where
-  pub count-is : i < k → i < block_count n l
-  count-is h = subst (λ j. i < j) (p ∙ ap (block_count n) q) h
-
-  pub count-end : k ≤ i → block_count n l ≤ i
-  count-end h = subst (λ j. j ≤ i) (p ∙ ap (block_count n) q) h
-
-pub blocks_room : (n m i room : ℕ) → block_count n m * block_bytes ≤ room → (k : ℕ) → k ≡ block_count n m → i < k → i * block_bytes + block_bytes ≤ room
-blocks_room n m i room h k q l = omega (arith, h, q, l)
+pub count_of : (n m k : ℕ) {l : ℕ} → m ≡ l → k ≡ block_count n m → k ≡ block_count n l
+count_of n m k q p = p ∙ ap (block_count n) q
 
 pub file_room :
     (links parents : List ℕ) (search : Search) (room : ℕ)
@@ -95,7 +83,7 @@ module _ (links parents : List ℕ) (search : Search) where
   g = net_of links parents search
 
   -- the sizes of a sound network
-  module _ (ok : net_verdict g ≡ Taken) where
+  module _ (ok : net_verdict g ≡ taken) where
     pub few-nodes : length parents ≤ node_limit
     unfolding net_of
     few-nodes = nodes-few g (sound g ok)
@@ -110,10 +98,13 @@ module _ (links parents : List ℕ) (search : Search) where
     pub links-small : (m : ℕ) → m ≡ links_in links → m ≤ word_most
     links-small m q = omega (arith, q, few-links)
 
+    pub count_small : (m : ℕ) → m ≡ links_in links → (k : ℕ) → k ≡ block_count (length parents) m → k ≤ word_most
+    count_small m q k p = few_blocks (length parents) m k p nodes-small (links-small m q)
+
   -- the writer's verdict and answer
   module _ (file : List ℕ) where
-    module _ (s : Checked) (z : Sizes) (e : s ≡ checked g) (t : s ≡ Sound z) where
-      told : (net_verdict g ≡ Taken) × (z.nodes ≡ length parents) × (z.links ≡ links_in links)
+    module _ (s : Result Sizes Refusal) (z : Sizes) (e : s ≡ checked g) (t : s ≡ Ok z) where
+      told : (net_verdict g ≡ taken) × (z.nodes ≡ length parents) × (z.links ≡ links_in links)
       unfolding net_of
       told = sound_told g s z e t
 
@@ -135,11 +126,11 @@ module _ (links parents : List ℕ) (search : Search) where
     -- by the network's verdict, which the table gave
     pub write_unsound :
         (r : Refusal)
-        → net_verdict g ≡ Refused r
-        → (Not r ≡ write_answer g file)
+        → net_verdict g ≡ Err r
+        → (Err r ≡ write_answer g file)
         × (file ≡ written_row g file)
     unfolding write_answer written_row write_verdict
-    write_unsound r t = let said : write_verdict g file ≡ Refused r = head_refuses _ _ r t in (rw said, rw said)
+    write_unsound r t = let said : write_verdict g file ≡ Err r = head_refuses _ _ r t in (rw said, rw said)
 
     module _ (entries : List ℕ) (t : Tabled g entries) (m : ℕ) (c : m ≡ links_in links) where
       pub tabled-small : (length parents ≤ word_most) × (m ≤ word_most)
@@ -154,28 +145,23 @@ module _ (links parents : List ℕ) (search : Search) where
         unfolding write_verdict
         room_decides = head_passes _ _ t.ok ∙ only_one _
 
-        pub tabled-refused :
-            length file < k
-            → (Not (record { why = NoRoom; place = 0 }) ≡ write_answer g file)
-            × (file ≡ written_row g file)
-        unfolding write_answer written_row refuse_if
-        tabled-refused h =
-            let short : ltb (length file) (file_length g) ≡ true = lt-ltb (length file) (file_length g) (omega (arith, h, length-is)) in
-            (rw (room_decides, short), rw (room_decides, short))
+        -- 10, where the table is worked out already
+        module _ (w : Verdict) (said : w ≡ refuse_if (ltb (length file) k) NoRoom 0) where
+          judged : write_verdict g file ≡ w
+          judged = room_decides ∙ (ap (λ (j : ℕ). refuse_if (ltb (length file) j) NoRoom 0) (sym length-is) ∙ sym said)
 
-        pub tabled-room : k ≤ length file → file_length g ≤ length file
-        tabled-room h = omega (arith, h, length-is)
+          pub tabled-refused : (r : Refusal) → w ≡ Err r → (Err r ≡ write_answer g file) × (file ≡ written_row g file)
+          unfolding write_answer written_row
+          tabled-refused r t = (rw (judged, t), rw (judged, t))
 
-        pub tabled_written :
-            k ≤ length file
-            → (after : List ℕ)
-            → after ≡ file_of g ++ drop (file_length g) file
-            → (Is k ≡ write_answer g file)
-            × (after ≡ written_row g file)
-        unfolding write_answer written_row refuse_if
-        tabled_written h after p =
-            let long : ltb (length file) (file_length g) ≡ false = le-ltb (length file) (file_length g) (tabled-room h) in
-            (rw (room_decides, long) (ap Is length-is), rw (room_decides, long) p)
+          pub tabled-room : w ≡ taken → file_length g ≤ length file
+          tabled-room t = omega (arith, ltb-false (length file) k (if_taken_lem _ NoRoom 0 (sym said ∙ t)), length-is)
+
+          pub tabled_written :
+              w ≡ taken
+              → (after : List ℕ) → after ≡ file_of g ++ drop (file_length g) file → (Ok k ≡ write_answer g file) × (after ≡ written_row g file)
+          unfolding write_answer written_row
+          tabled_written t after p = (rw (judged, t) (ap Ok length-is), rw (judged, t) p)
 
 -- the search that the code works by is the one that root and depth mean
 module _ (links parents : List ℕ) {search : Search} (aim : Aim) (meant : search ≡ by_number aim) (file : List ℕ) where
@@ -183,7 +169,7 @@ module _ (links parents : List ℕ) {search : Search} (aim : Aim) (meant : searc
   verdict_meant {v} h = subst (λ (s : Search). v ≡ write_verdict (net_of links parents s) file) meant h
 
   pub answer_meant :
-      {r : WriteAnswer} {after : List ℕ}
+      {r : Result ℕ Refusal} {after : List ℕ}
       → (r ≡ write_answer (net_of links parents search) file)
       × (after ≡ written_row (net_of links parents search) file)
       → (r ≡ write_answer (net_of links parents (by_number aim)) file)

@@ -8,8 +8,7 @@ use lib.Dec.{eqb}
 use lib.ListN.{length, get_or, take, drop}
 use borrow.Author.Tests.{eq-eqb, ne_eqb}
 use Rattle.edition.specs.declared.Aim.{Aim}
-use Rattle.edition.specs.declared.Verdict.{Verdict}
-use Rattle.edition.specs.declared.Verdict.TheVariants.{Taken}
+use Rattle.edition.specs.Refusals.{Verdict, taken}
 use Rattle.edition.specs.declared.Why.TheVariants.{BadLength, NoRoom, BadEntry}
 use Rattle.edition.specs.Limits.{lowest_number, longest}
 use Rattle.edition.specs.Stored.{edition_limits, by_number, block_bytes, table_kind, entry_bytes, entries_a_block}
@@ -58,14 +57,14 @@ module _ (g : Net) where
       (λ h q. entries_clean ((i - 1 - link_blocks m) * entries_a_block) (min entries_a_block (n - (i - 1 - link_blocks m) * entries_a_block)))
 
   -- every block of the file is taken
-  block-taken : (i : ℕ) → i < block_count n m → block_refusal (file_of g) n m i ≡ Taken
+  block-taken : (i : ℕ) → i < block_count n m → block_refusal (file_of g) n m i ≡ taken
   unfolding block_refusal block_of
   block-taken i l =
       let p = part_at n m i in
       ap (block_verdict p.kind i p.used) (block-there g i l)
       ∙ sealed_sound p.kind i p.used (records_of g p) (part_such n m i l) (records_size g p (part_fit n m i)) (part_clean i)
 
-  header_taken : block_refusal (file_of g) 0 0 0 ≡ Taken
+  header_taken : block_refusal (file_of g) 0 0 0 ≡ taken
   unfolding block_refusal part_at block_count
   header_taken = block-taken 0 (omega arith)
 
@@ -75,8 +74,8 @@ module _ (g : Net) where
       let size = file_size g in
       rw (ne_eqb (length (file_of g)) 0 (λ z. omega (arith, z, size)), eq-eqb (length (file_of g) % block_bytes) 0 (omega (arith, size)))
 
-  module _ (ok : net_verdict g ≡ Taken) (fits : size_verdict edition_limits n m g.search ≡ Taken) (low : g.search.rule ≡ lowest_number) where
-    head_accepted : head_verdict (file_of g) ≡ Taken
+  module _ (ok : net_verdict g ≡ taken) (fits : size_verdict edition_limits n m g.search ≡ taken) (low : g.search.rule ≡ lowest_number) where
+    head_accepted : head_verdict (file_of g) ≡ taken
     unfolding head_verdict
     head_accepted =
         both_taken _ _ (if_passes _ BadLength 0 even)
@@ -94,7 +93,7 @@ module _ (g : Net) where
           ∙ (ap (λ (s : List ℕ). not (same s (entry_record (g.parent x) (entry g x)))) (entry-there g x l)
           ∙ ap not (equal_same (entry_record (g.parent x) (entry g x))))
 
-      rest_accepted : rest_verdict (file_of g) rows ≡ Taken
+      rest_accepted : rest_verdict (file_of g) rows ≡ taken
       unfolding rest_verdict net_verdict
       rest_accepted =
           ap₂ named (nodes_written g ok) (links_written g ok)
@@ -113,17 +112,17 @@ module _ (g : Net) where
               refuse_at (bad_entry (file_of g)) a BadEntry ∷ [])
 
       -- every check of the file passes
-      pub all_accepted : read_verdict (file_of g) rows ≡ Taken
+      pub all_accepted : read_verdict (file_of g) rows ≡ taken
       unfolding read_verdict
       all_accepted = both_taken _ _ head_accepted (both_taken _ _ rest_accepted none_left)
 
 -- the file of a sound network within edition 1's limits, of rows whose numbers have 16 bits, is taken
 pub written_accepted :
     (links parents : List ℕ) (aim : Aim)
-    → net_verdict (net_of links parents (by_number aim)) ≡ Taken
-    → size_verdict edition_limits (length parents) (links_in links) (by_number aim) ≡ Taken → ((i : ℕ) → get_or links i 0 ≤ longest)
+    → net_verdict (net_of links parents (by_number aim)) ≡ taken
+    → size_verdict edition_limits (length parents) (links_in links) (by_number aim) ≡ taken → ((i : ℕ) → get_or links i 0 ≤ longest)
     → (rows : Rows) → too_short (length parents) (links_in links) rows ≡ false
-    → read_verdict (file_of (net_of links parents (by_number aim))) rows ≡ Taken
+    → read_verdict (file_of (net_of links parents (by_number aim))) rows ≡ taken
 unfolding net_of
 written_accepted links parents aim ok fits held rows room =
     all_accepted (net_of links parents (by_number aim)) ok fits refl (network_back links parents aim ok held) rows room

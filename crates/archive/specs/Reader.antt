@@ -1,11 +1,9 @@
 -- What a file says, and what the reader refuses it for. Assumes nothing.
-use Rattle.std.specs.Prelude.{Bool, not, ◌||◌, List, [], ◌∷◌, ◌++◌, ℕ, ◌+◌, ◌*◌, ◌%◌, eqb, ltb, length, take, drop}
+use Rattle.std.specs.Prelude.{Err, Ok, Result, Bool, not, ◌||◌, List, [], ◌∷◌, ◌++◌, ℕ, ◌+◌, ◌*◌, ◌%◌, eqb, ltb, length, take, drop}
 use Rattle.edition.specs.declared.Search.{Search}
-use Rattle.edition.specs.declared.Verdict.{Verdict}
-use Rattle.edition.specs.declared.Verdict.TheVariants.{Taken, Refused}
+use Rattle.edition.specs.Refusals.{Verdict, if_taken}
 use Rattle.edition.specs.declared.Why.TheVariants.{BadLength, NoRoom, BadEntry}
 use Rattle.edition.specs.Stored.{edition_limits, by_number, block_bytes, entry_bytes}
-use Rattle.edition.specs.Refusals.{if_taken}
 use Rattle.rows.specs.Count.{rows_to}
 use Rattle.rows.specs.First.{refuse_if, refuse_at, firstly, verdict_to}
 use Rattle.rows.specs.Lists.{same}
@@ -19,8 +17,7 @@ use Rattle.table.specs.Table.{table}
 use Rattle.numbers.specs.Bytes.{number_in}
 use Rattle.block.specs.Block.{block_verdict}
 use Rattle.archive.specs.declared.Header.{Header}
-use Rattle.archive.specs.declared.ReadAnswer.{ReadAnswer}
-use Rattle.archive.specs.declared.ReadAnswer.TheVariants.{Is, Not}
+use Rattle.edition.specs.declared.Refusal.{Refusal}
 use Rattle.archive.specs.Parts.{block_count, part_at, link_place, entry_place}
 use Rattle.record.specs.Record.{entry_record}
 
@@ -117,12 +114,12 @@ unfoldable pub read_verdict : List ℕ → Rows → Verdict
 read_verdict file rows = let rest = rest_verdict file rows in firstly (head_verdict file ∷ rest ∷ [])
 
 -- What the header says where the verdict is taken, else the refusal.
-abbrev pub read_if : Verdict → Header → ReadAnswer
-read_if Taken head = Is head
-read_if (Refused r) head = Not r
+abbrev pub read_if : Verdict → Header → Result Header Refusal
+read_if (Ok _) head = Ok head
+read_if (Err r) head = Err r
 
 -- What the reader answers: n, m, root, depth and tie rule 0, or the refusal.
-unfoldable pub read_answer : List ℕ → Rows → ReadAnswer
+unfoldable pub read_answer : List ℕ → Rows → Result Header Refusal
 read_answer file rows = read_if (read_verdict file rows) (head_read file)
 
 -- What the lent rows then hold: links, parents and entries of the file, and what lay past them; on a refusal what they held.

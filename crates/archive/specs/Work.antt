@@ -2,8 +2,7 @@
 use Rattle.std.specs.Prelude.{Bool, cond, not, ◌≡◌, List, [], ◌∷◌, ◌++◌, ℕ, ◌+◌, ◌*◌, ◌<◌, ◌≤◌, eqb, length, get_or, take, drop}
 use Rattle.std.proofs.lemmas.List.Edits.{sets}
 use Rattle.edition.specs.declared.Search.{Search}
-use Rattle.edition.specs.declared.Verdict.{Verdict}
-use Rattle.edition.specs.declared.Verdict.TheVariants.{Taken}
+use Rattle.edition.specs.Refusals.{Verdict, taken}
 use Rattle.edition.specs.declared.Why.TheVariants.{BadLength, NoRoom, BadEntry}
 use Rattle.rows.specs.First.{refuse_if, refuse_at, firstly, verdict_to}
 use Rattle.edition.specs.Limits.{no_link, link_limit}
@@ -46,7 +45,7 @@ pub record Held (part : Part) (room : ℕ) : Type 0 where
 
 -- a sound network, and a row that begins with its table
 pub record Tabled (g : Net) (entries : List ℕ) : Type 0 where
-  pub ok : net_verdict g ≡ Taken
+  pub ok : net_verdict g ≡ taken
   pub more : List ℕ
   pub is : entries ≡ table g ++ more
 
@@ -80,7 +79,7 @@ content_verdict file g short =
 -- a file whose header is this, within the limits, and that has as many blocks as it says
 pub record Blocked (file : List ℕ) (head : Header) : Type 0 where
   pub is : head ≡ head_read file
-  pub sized : size_verdict edition_limits (nodes_read file) (links_read file) (search_read file) ≡ Taken
+  pub sized : size_verdict edition_limits (nodes_read file) (links_read file) (search_read file) ≡ taken
   pub long : length file ≡ block_count (nodes_read file) (links_read file) * block_bytes
 
 -- the head, then the length, then block by block
@@ -96,7 +95,7 @@ blocks_verdict file =
 -- what the check of a file's records says, and where they are taken leaves in the row that it works in
 pub record Judged (file : List ℕ) (g : Net) (short : Bool) (v : Verdict) (row : List ℕ) : Type 0 where
   pub is : v ≡ content_verdict file g short
-  pub tabled : v ≡ Taken → Tabled g row
+  pub tabled : v ≡ taken → Tabled g row
 
 -- a row that begins with the first n entries of another
 unfoldable pub copied : List ℕ → ℕ → List ℕ → List ℕ

@@ -1,11 +1,9 @@
 -- The one file of a network and depth, and what the writer answers. A file has no place for a tie rule: the network is one under rule 0,
 -- since writer and reader name no other (`by_number`). Assumes nothing.
-use Rattle.std.specs.Prelude.{cond, List, [], ◌∷◌, ◌++◌, ℕ, ◌+◌, ◌*◌, eqb, ltb, length, drop}
-use Rattle.edition.specs.declared.Verdict.{Verdict}
-use Rattle.edition.specs.declared.Verdict.TheVariants.{Taken, Refused}
+use Rattle.std.specs.Prelude.{Err, Ok, Result, cond, List, [], ◌∷◌, ◌++◌, ℕ, ◌+◌, ◌*◌, eqb, ltb, length, drop}
+use Rattle.edition.specs.Refusals.{Verdict, if_taken}
 use Rattle.edition.specs.declared.Why.TheVariants.{NoRoom}
 use Rattle.edition.specs.Stored.{block_bytes, header_kind, links_kind}
-use Rattle.edition.specs.Refusals.{if_taken}
 use Rattle.rows.specs.Count.{rows_to}
 use Rattle.rows.specs.First.{refuse_if, firstly}
 use Rattle.network.specs.Network.{Net}
@@ -13,8 +11,7 @@ use Rattle.sound.specs.Sound.{net_verdict}
 use Rattle.swap.specs.Entry.{entry}
 use Rattle.block.specs.Block.{block}
 use Rattle.record.specs.Record.{header_record, link_record, entry_record}
-use Rattle.archive.specs.declared.WriteAnswer.{WriteAnswer}
-use Rattle.archive.specs.declared.WriteAnswer.TheVariants.{Is, Not}
+use Rattle.edition.specs.declared.Refusal.{Refusal}
 use Rattle.archive.specs.Parts.{block_count, part_at}
 
 -- Record r of a kind.
@@ -44,12 +41,12 @@ unfoldable pub write_verdict : Net → List ℕ → Verdict
 write_verdict g row = firstly (net_verdict g ∷ refuse_if (ltb (length row) (file_length g)) NoRoom 0 ∷ [])
 
 -- The file's length where the verdict is taken, else the refusal.
-abbrev pub write_if : Verdict → ℕ → WriteAnswer
-write_if Taken bytes = Is bytes
-write_if (Refused r) bytes = Not r
+abbrev pub write_if : Verdict → ℕ → Result ℕ Refusal
+write_if (Ok _) bytes = Ok bytes
+write_if (Err r) bytes = Err r
 
 -- What the writer answers: the file's length, or the refusal.
-unfoldable pub write_answer : Net → List ℕ → WriteAnswer
+unfoldable pub write_answer : Net → List ℕ → Result ℕ Refusal
 write_answer g row = write_if (write_verdict g row) (file_length g)
 
 -- What the lent bytes then hold: the file and what lay past it, or on a refusal what they held.

@@ -6,8 +6,8 @@
 // 3 its read. One that is not a whole network within the limits, or that is refused, prints `refused`.
 #![tactic(auto)]
 
-use archive::{ReadAnswer, WriteAnswer};
-use edition::{Change, Edition, Memory, Search, Verdict};
+use edition::{Change, Edition, Memory, Search};
+use network::Network;
 use test_words::HEAD;
 
 // The numbers of standard input and output.
@@ -18,18 +18,25 @@ const STDOUT: i32 = 1;
 // Bytes of the longest input, and one more, by which a longer one is seen.
 const BYTES: usize = 2 * (HEAD + Memory::NODES + Memory::LINK_ROW + 1) + 1;
 
-// The jobs.
-const TABLE: u16 = 0;
-
-const CHANGE: u16 = 1;
-
-const WRITE: u16 = 2;
-
-// The number, or that the input is refused.
+// What is done as many times as asked.
 #[derive(Clone, Copy)]
-enum Outcome {
-    Number(u64),
-    Refused,
+enum Job {
+    Table,
+    Change,
+    Write,
+    Read,
+}
+
+impl Job {
+    // The job that a word names.
+    fn of(word: u16) -> Job {
+        match word {
+            0 => Job::Table,
+            1 => Job::Change,
+            2 => Job::Write,
+            _ => Job::Read,
+        }
+    }
 }
 
 // The number turned by one bit, and another one added, modulo 2^64.
@@ -40,28 +47,17 @@ fn mix(sum: u64, more: u64) -> u64 {
 // A row of numbers mixed into one.
 fn fold(row: &[u64], start: u64) -> u64 {
     let mut sum = start;
-    let mut i = 0;
-    while i < row.len() {
-        sum = mix(sum, row[i]);
-        i += 1;
+    for number in row {
+        sum = mix(sum, *number);
     }
     sum
 }
 
-fn wide(byte: u8) -> u64 {
-    byte as u64
-}
-
-// The first bytes of a row mixed into one number.
-fn fold_bytes(bytes: &[u8], size: usize, start: u64) -> u64 {
+// Bytes mixed into one number.
+fn fold_bytes(bytes: &[u8], start: u64) -> u64 {
     let mut sum = start;
-    let mut i = 0;
-    while i < bytes.len() {
-        if size <= i {
-            return sum;
-        }
-        sum = mix(sum, wide(bytes[i]));
-        i += 1;
+    for byte in bytes {
+        sum = mix(sum, *byte as u64);
     }
     sum
 }
@@ -69,43 +65,26 @@ fn fold_bytes(bytes: &[u8], size: usize, start: u64) -> u64 {
 // Whether link e is no parent link of its ends.
 fn is_spare(links: &[u16], parents: &[u16], e: usize) -> bool {
     let l = network::link_at(links, e);
-    if network::parent_of(parents, l.first as usize) as usize == e {
-        return false;
-    }
-    network::parent_of(parents, l.second as usize) as usize != e
+    network::parent_of(parents, l.first as usize) as usize != e
+        && network::parent_of(parents, l.second as usize) as usize != e
 }
 
 // The link after e, the first one after the last.
 fn after(m: usize, e: usize) -> usize {
-    if m <= e {
-        return 0;
-    }
-    if e + 1 == m {
-        return 0;
-    }
-    e + 1
+    if e < m && e + 1 < m { e + 1 } else { 0 }
 }
 
 // The next link after e that is no parent link of its ends.
 fn next_spare(links: &[u16], parents: &[u16], e: usize) -> usize {
     let m = network::links_in(links);
-    let mut left = m;
     let mut at = after(m, e);
-    while 0 < left {
+    for _turn in 0..m {
         if is_spare(links, parents, at) {
             return at;
         }
         at = after(m, at);
-        left -= 1;
     }
     at
-}
-
-fn is_taken(said: Verdict) -> bool {
-    match said {
-        Verdict::Taken => true,
-        Verdict::Refused(_) => false,
-    }
 }
 
 // Withdraws link e at the even times, and sets it in service again at the odd ones.
@@ -126,15 +105,12 @@ fn change_once(
         mark: (i % 2) as u16,
         length: l.length,
     };
-    is_taken(change::change(links, parents, search, entries, change))
+    change::change(links, parents, search, entries, change).is_ok()
 }
 
 // The length of the file, 0 where it is refused.
-fn write_once(links: &[u16], parents: &[u16], search: Search, file: &mut [u8]) -> usize {
-    match archive::write(links, parents, search.aim(), file) {
-        WriteAnswer::Is(size) => size,
-        WriteAnswer::Not(_) => 0,
-    }
+fn write_once(net: Network, file: &mut [u8]) -> usize {
+    archive::write(net.links, net.parents, net.search.aim(), file).unwrap_or(0)
 }
 
 // Reads the first bytes of a row, where it has so many.
@@ -145,13 +121,7 @@ fn read_once(
     parents: &mut [u16],
     entries: &mut [u64],
 ) -> bool {
-    if file.len() < size {
-        return false;
-    }
-    match archive::read(&file[0..size], links, parents, entries) {
-        ReadAnswer::Is(_) => true,
-        ReadAnswer::Not(_) => false,
-    }
+    size <= file.len() && archive::read(&file[..size], links, parents, entries).is_ok()
 }
 
 // The job, once.
@@ -162,20 +132,31 @@ fn once(
     entries: &mut [u64],
     file: &mut [u8],
     size: usize,
-    job: u16,
+    job: Job,
     e: usize,
     i: usize,
 ) -> bool {
-    if job == TABLE {
-        return is_taken(table::table(links, parents, search, entries));
+    match job {
+        Job::Table => table::table(
+            Network {
+                links,
+                parents,
+                search,
+            },
+            entries,
+        )
+        .is_ok(),
+        Job::Change => change_once(links, parents, search, entries, e, i),
+        Job::Write => write_once(
+            Network {
+                links,
+                parents,
+                search,
+            },
+            file,
+        ) == size,
+        Job::Read => read_once(file, size, links, parents, entries),
     }
-    if job == CHANGE {
-        return change_once(links, parents, search, entries, e, i);
-    }
-    if job == WRITE {
-        return write_once(links, parents, search, file) == size;
-    }
-    read_once(file, size, links, parents, entries)
 }
 
 // The job so many times.
@@ -186,32 +167,29 @@ fn repeat(
     entries: &mut [u64],
     file: &mut [u8],
     size: usize,
-    job: u16,
+    job: Job,
     times: usize,
-) -> Outcome {
-    let mut sum: u64 = 0;
+) -> Option<u64> {
+    let mut sum = 0;
     let mut e = 0;
-    let mut i = 0;
-    while i < times {
+    for i in 0..times {
         if i % 2 == 0 {
             e = next_spare(links, parents, e);
         }
         if !once(links, parents, search, entries, file, size, job, e, i) {
-            return Outcome::Refused;
+            return None;
         }
         sum = mix(sum, rows::wide_at(entries, i));
-        i += 1;
     }
-    sum = fold(entries, sum);
-    Outcome::Number(fold_bytes(file, size, sum))
+    Some(fold_bytes(&file[..size.min(file.len())], fold(entries, sum)))
 }
 
 // The length of the file, which is written where the job has to do with one.
-fn file_size(links: &[u16], parents: &[u16], search: Search, file: &mut [u8], job: u16) -> usize {
-    if job < WRITE {
-        return 0;
+fn file_size(net: Network, file: &mut [u8], job: Job) -> usize {
+    match job {
+        Job::Table | Job::Change => 0,
+        Job::Write | Job::Read => write_once(net, file),
     }
-    write_once(links, parents, search, file)
 }
 
 // The table first, and the file where the job has to do with one; then the job.
@@ -221,44 +199,36 @@ fn prepared(
     search: Search,
     entries: &mut [u64],
     file: &mut [u8],
-    job: u16,
+    job: Job,
     times: usize,
-) -> Outcome {
-    let said = table::table(links, parents, search, entries);
-    let Verdict::Taken = said else {
-        return Outcome::Refused;
+) -> Option<u64> {
+    let net = Network {
+        links,
+        parents,
+        search,
     };
-    let size = file_size(links, parents, search, file, job);
+    table::table(net, entries).ok()?;
+    let size = file_size(net, file, job);
     repeat(links, parents, search, entries, file, size, job, times)
 }
 
-// The rows of the bytes of an input, and what comes of them.
+// The rows of the bytes of an input, and what comes of them: a number, none where it is refused.
 fn decoded(
     raw: &[u8],
     links: &mut [u16],
     parents: &mut [u16],
     entries: &mut [u64],
     file: &mut [u8],
-) -> Outcome {
+) -> Option<u64> {
     let head = test_words::head_of(raw);
     let words = HEAD + parents.len() + links.len();
-    if raw.len() % 2 != 0 {
-        return Outcome::Refused;
-    }
-    if raw.len() / 2 != words + 1 {
-        return Outcome::Refused;
+    if raw.len() % 2 != 0 || raw.len() / 2 != words + 1 {
+        return None;
     }
     test_words::decode(&raw[2 * HEAD..], parents);
     test_words::decode(&raw[2 * (HEAD + parents.len())..], links);
-    prepared(
-        links,
-        parents,
-        head.search,
-        entries,
-        file,
-        test_words::word(raw, words),
-        head.count,
-    )
+    let job = Job::of(test_words::word(raw, words));
+    prepared(links, parents, head.search, entries, file, job, head.count)
 }
 
 // What comes of the bytes of an input.
@@ -268,62 +238,49 @@ fn worked(
     parents: &mut [u16],
     entries: &mut [u64],
     file: &mut [u8],
-) -> Outcome {
+) -> Option<u64> {
     let head = test_words::head_of(raw);
     let n = head.nodes;
     let m = head.links;
-    if parents.len() < n {
-        return Outcome::Refused;
-    }
     let linked = network::numbers_of(m);
     let tabled = entries::numbers_of(n);
-    if network::links_in(links) < m {
-        return Outcome::Refused;
-    }
-    if links.len() < linked {
-        return Outcome::Refused;
-    }
-    if entries.len() < tabled {
-        return Outcome::Refused;
+    if parents.len() < n
+        || network::links_in(links) < m
+        || links.len() < linked
+        || entries.len() < tabled
+    {
+        return None;
     }
     decoded(
         raw,
-        &mut links[0..linked],
-        &mut parents[0..n],
-        &mut entries[0..tabled],
+        &mut links[..linked],
+        &mut parents[..n],
+        &mut entries[..tabled],
         file,
     )
 }
 
-fn print(said: Outcome) {
-    match said {
-        Outcome::Number(sum) => {
-            io::print_decimal(STDOUT, sum);
-            io::write_all(STDOUT, b"\n");
-        }
-        Outcome::Refused => {
-            io::write_all(STDOUT, b"refused\n");
-        }
-    }
-}
-
 // Reads the input and prints its answer, by way of lent rows.
-fn run(
-    raw: &mut [u8],
-    links: &mut [u16],
-    parents: &mut [u16],
-    entries: &mut [u64],
-    file: &mut [u8],
-) {
-    let got = io::read_full(STDIN, raw);
-    print(worked(&raw[0..got], links, parents, entries, file));
-}
-
 fn main() {
     let mut raw = [0u8; BYTES];
     let mut links = [0u16; Memory::LINK_ROW];
     let mut parents = [0u16; Memory::NODES];
     let mut entries = [0u64; Memory::ENTRY_ROW];
     let mut file = [0u8; Edition::FILE_BYTES];
-    run(&mut raw, &mut links, &mut parents, &mut entries, &mut file);
+    let got = io::read_full(STDIN, &mut raw);
+    match worked(
+        &raw[..got],
+        &mut links,
+        &mut parents,
+        &mut entries,
+        &mut file,
+    ) {
+        Some(sum) => {
+            io::print_decimal(STDOUT, sum);
+            io::write_all(STDOUT, b"\n");
+        }
+        None => {
+            io::write_all(STDOUT, b"refused\n");
+        }
+    }
 }

@@ -1,12 +1,12 @@
 -- The front of a block is the one asked exactly where kind, edition, number and used count are. Assumes nothing.
 use mathlib.Core.Path.{◌≡◌, refl, sym, ap, ap₂, ◌∙◌}
-use mathlib.Core.Bool.{Bool, true, false, not, ◌&&◌}
+use mathlib.Core.Bool.{Bool, true, false, not, ◌&&◌, ◌||◌}
 use mathlib.Core.List.{List}
 use Prim.Native.Nat.{ℕ, ◌+◌, ◌*◌, ◌/◌, ◌%◌, ◌<◌}
 use native.Mathlib.Omega.{arith}
 use lib.Dec.{eqb}
 use lib.ListN.{length, get_or, take}
-use borrow.Author.Tests.{eq-eqb, ne_eqb, eqb-true, eqb-false}
+use borrow.Author.Tests.{eq-eqb, eqb-true, eqb-false}
 use Rattle.edition.specs.Stored.{edition_one, block_bytes}
 use Rattle.rows.specs.Lists.{same}
 use Rattle.numbers.specs.Bytes.{bytes_of, number_in}
@@ -40,6 +40,12 @@ six true true true true false s = refl
 six true true true true true false = refl
 six true true true true true true = refl
 
+not_all : (p q r s : Bool) → not (p && (q && (r && s))) ≡ (not p || not q || not r || not s)
+not_all false q r s = refl
+not_all true false r s = refl
+not_all true true false s = refl
+not_all true true true s = refl
+
 module _ (kind number used : ℕ) (b : List ℕ) (l : length b ≡ block_bytes) (bytes : (i : ℕ) → get_or b i 0 < 256) (n : number < 65536) (u : used < 65536) where
   -- front by front
   front_same :
@@ -55,22 +61,8 @@ module _ (kind number used : ℕ) (b : List ℕ) (l : length b ≡ block_bytes) 
       (two_bytes (get_or b 2 0) (get_or b 3 0) number (bytes 2) (bytes 3) n ∙ ap (λ (v : ℕ). eqb v number) (sym (number_two b 2)))
       (two_bytes (get_or b 4 0) (get_or b 5 0) used (bytes 4) (bytes 5) u ∙ ap (λ (v : ℕ). eqb v used) (sym (number_two b 4))))
 
-  pub bad_kind : (get_or b 0 0 ≡ kind → ⊥) → true ≡ bad_front kind number used b
+  pub front_other :
+      bad_front kind number used b
+      ≡ (not (eqb (get_or b 0 0) kind) || not (eqb (get_or b 1 0) edition_one) || not (eqb (number_in b 2 2) number) || not (eqb (number_in b 4 2) used))
   unfolding bad_front
-  bad_kind h = rw (front_same, ne_eqb (get_or b 0 0) kind h)
-
-  module _ (k : get_or b 0 0 ≡ kind) where
-    pub bad_edition : (get_or b 1 0 ≡ edition_one → ⊥) → true ≡ bad_front kind number used b
-    unfolding bad_front
-    bad_edition h = rw (front_same, eq-eqb (get_or b 0 0) kind k, ne_eqb (get_or b 1 0) edition_one h)
-
-    module _ (e : get_or b 1 0 ≡ edition_one) (v : ℕ) (p : v ≡ number_in b 2 2) where
-      pub bad_number : (v ≡ number → ⊥) → true ≡ bad_front kind number used b
-      unfolding bad_front
-      bad_number h =
-          rw (front_same, eq-eqb (get_or b 0 0) kind k, eq-eqb (get_or b 1 0) edition_one e, ← p, ne_eqb v number h)
-
-      pub bad_used : v ≡ number → (w : ℕ) → w ≡ number_in b 4 2 → not (eqb w used) ≡ bad_front kind number used b
-      unfolding bad_front
-      bad_used h w q =
-          rw (front_same, eq-eqb (get_or b 0 0) kind k, eq-eqb (get_or b 1 0) edition_one e, ← p, eq-eqb v number h, q)
+  front_other = rw front_same (not_all (eqb (get_or b 0 0) kind) (eqb (get_or b 1 0) edition_one) (eqb (number_in b 2 2) number) (eqb (number_in b 4 2) used))

@@ -1,9 +1,8 @@
-pub mod Clean
+pub mod Passing
 pub mod Summing
 pub mod Sizes
 pub mod Fronts
 pub mod Judging
-pub mod Fillers
 pub mod Sealing
 pub mod Whole
 pub mod Outcomes

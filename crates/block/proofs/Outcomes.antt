@@ -1,9 +1,7 @@
 -- Two outcomes that a promise allows are equal: one theorem a public function, in the words of its contract. Assumes nothing.
-use Prim.Native.Nat.{ℕ}
+use Prim.Native.Nat.{ℕ, ◌+◌}
 use mathlib.Core.List.{List}
-use Prim.Native.Nat.{◌+◌}
-use Rattle.block.specs.Block.{block_verdict}
-use Rattle.block.specs.Block.{payload, payload_place, sealed}
+use Rattle.block.specs.Block.{block_verdict, payload, payload_place, sealed}
 use Rattle.edition.proofs.Only.{One, one}
 
 -- `block::check_block`

@@ -107,26 +107,24 @@ fold_more (suc t) w h = go (ltb word_most (folded_sum (suc t) + w)) refl
 
 -- what the loop keeps: a plain sum of the first k words
 pub record Summing (b : List ℕ) (sum k : ℕ) : Type 0 where
-  pub low : k ≤ block_words
   pub most : sum ≤ k * word_most
   pub is : folded_sum sum ≡ ones_sum (blanked b) k
 
 pub sum-start : (b : List ℕ) → Summing b 0 0
 unfolding ones_sum folded_sum
-sum-start b = record { low = omega arith; most = omega arith; is = refl }
+sum-start b = record { most = omega arith; is = refl }
 
 module _ (b : List ℕ) (l : length b ≡ block_bytes) (sum k : ℕ) (s : Summing b sum k) where
   pub sum_more : k < block_words → (w : ℕ) → w ≡ word_of b k → w ≤ word_most → Summing b (sum + w) (k + 1)
   unfolding ones_sum
   sum_more h w p m =
       record {
-        low = omega arith;
         most = omega (arith, s.most);
         is = sym (fold_more sum w m) ∙ rw (add-one k, s.is, p ∙ word-is b l k h);
       }
 
-  pub sum-end : block_words ≤ k → (f : ℕ) → f ≡ folded_sum sum → word_most - f ≡ check_of b
+  pub sum-end : k ≡ block_words → (f : ℕ) → f ≡ folded_sum sum → word_most - f ≡ check_of b
   unfolding check_of checksum blanked
   sum-end h f p =
-      let q : k ≡ length (blanked b) / 2 = omega (arith, s.low, blank-length b l) in
+      let q : k ≡ length (blanked b) / 2 = omega (arith, h, blank-length b l) in
       ap (λ (n : ℕ). word_most - n) (p ∙ (s.is ∙ ap (ones_sum (blanked b)) q))

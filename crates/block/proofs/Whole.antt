@@ -9,7 +9,7 @@ use lib.Dec.{eqb}
 use lib.ListN.{length, get_or, take, drop, replicate, length-append, length-drop, length-replicate, get_or-replicate, take-append-drop, get_or-append}
 use lib.Seq.{drop-cons, drop-drop, get_or-drop, get_or-take, ext_get_or, length-take-le, get_or-append-add}
 use borrow.Author.Tests.{eq-eqb, eqb-true, not-false}
-use Rattle.edition.specs.declared.Verdict.TheVariants.{Taken}
+use Rattle.edition.specs.Refusals.{taken}
 use Rattle.edition.specs.declared.Why.TheVariants.{BadLength, BadCheck, BadBlock}
 use Rattle.edition.specs.Stored.{block_bytes, front_bytes, payload_bytes, table_kind, entry_bytes}
 use Rattle.rows.specs.Count.{some_to}
@@ -38,7 +38,7 @@ zeros s i k l h =
     ∙ sym (get_or-replicate k j 0 0 low)))
 
 -- what a block that is taken holds
-module _ (kind number used : ℕ) (b : List ℕ) (h : block_verdict kind number used b ≡ Taken) where
+module _ (kind number used : ℕ) (b : List ℕ) (h : block_verdict kind number used b ≡ taken) where
   taken_check : number_in b 6 2 ≡ check_of b
   unfolding block_verdict bad_check
   taken_check =
@@ -190,7 +190,7 @@ module _ (kind number used : ℕ) (records : List ℕ) (heard : no_such_block ki
     made_whole = rw (heard, made_front, made_filler)
 
     -- the block of records is taken: as many as the count says, and in a table with zeros where an entry has zeros
-    pub sealed_sound : block_verdict kind number used (block kind number used records) ≡ Taken
+    pub sealed_sound : block_verdict kind number used (block kind number used records) ≡ taken
     unfolding block_verdict made bad_check
     sealed_sound =
         both_taken _ _ (if_passes (not (eqb (length made) block_bytes)) BadLength 0 (ap not (eq-eqb (length made) block_bytes made_length)))
@@ -202,7 +202,7 @@ pub seal_taken :
     (kind number used : ℕ) (b : List ℕ)
     → length b ≡ block_bytes → no_such_block kind used ≡ false
     → (kind ≡ table_kind → (r : ℕ) → r < used → Zeroed (take (used * record_bytes kind) (drop front_bytes b)) r)
-    → block_verdict kind number used (sealed kind number used b) ≡ Taken
+    → block_verdict kind number used (sealed kind number used b) ≡ taken
 seal_taken kind number used b l h clean =
     let size = such_size kind used h in
     rw (← sealed-is kind number used b l h)
@@ -211,7 +211,7 @@ seal_taken kind number used b l h clean =
     clean)
 
 -- what a block that is taken holds in its filler: zeros inside a table's entries
-module _ (kind number used : ℕ) (b : List ℕ) (h : block_verdict kind number used b ≡ Taken) where
+module _ (kind number used : ℕ) (b : List ℕ) (h : block_verdict kind number used b ≡ taken) where
   entry_clean : kind ≡ table_kind → (r : ℕ) → r < used → dirty_entry b r ≡ false
   unfolding bad_filler
   entry_clean q r l =
@@ -255,7 +255,7 @@ pub record OneBlock (kind number used : ℕ) (b records : List ℕ) : Type 0 whe
 -- bytes are taken as a block where they are the one block of some records, and nowhere else
 pub taken-one :
     (kind number used : ℕ) (b : List ℕ)
-    → ((i : ℕ) → get_or b i 0 < 256) → block_verdict kind number used b ≡ Taken
+    → ((i : ℕ) → get_or b i 0 < 256) → block_verdict kind number used b ≡ taken
     → OneBlock kind number used b (take (used * record_bytes kind) (drop front_bytes b))
 taken-one kind number used b bytes h =
     record {
@@ -267,6 +267,6 @@ taken-one kind number used b bytes h =
       is = block_only kind number used b h bytes;
     }
 
-pub one-taken : (kind number used : ℕ) (b records : List ℕ) → OneBlock kind number used b records → block_verdict kind number used b ≡ Taken
+pub one-taken : (kind number used : ℕ) (b records : List ℕ) → OneBlock kind number used b records → block_verdict kind number used b ≡ taken
 one-taken kind number used b records o =
     ap (block_verdict kind number used) o.is ∙ sealed_sound kind number used records o.counted o.size o.zeroed

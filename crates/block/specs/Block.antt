@@ -1,8 +1,7 @@
 -- A block of the stored form, edition 1: how one is made, and what one is refused for. Assumes nothing.
 use Rattle.std.specs.Prelude.{Bool, cond, not, ◌&&◌, ◌||◌, List, [], ◌∷◌, ◌++◌, ℕ, ◌+◌, ◌*◌, ◌-◌, eqb, ltb, length, take, drop, replicate}
-use Rattle.edition.specs.declared.Verdict.{Verdict}
+use Rattle.edition.specs.Refusals.{Verdict, if_taken}
 use Rattle.edition.specs.declared.Why.TheVariants.{BadLength, BadCheck, BadBlock}
-use Rattle.edition.specs.Refusals.{if_taken}
 use Rattle.edition.specs.Stored.{edition_one, block_bytes, front_bytes, payload_bytes, header_kind, links_kind, table_kind, header_bytes, link_bytes}
 use Rattle.edition.specs.Stored.{entry_bytes, headers_a_block, links_a_block, entries_a_block}
 use Rattle.rows.specs.Count.{some_to}

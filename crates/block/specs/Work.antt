@@ -1,8 +1,9 @@
 -- What private functions of this crate promise each other. No public promise cites this page. Assumes nothing.
-use Rattle.std.specs.Prelude.{Bool, cond, not, List, ◌∷◌, ◌++◌, ℕ, ◌+◌, ◌-◌, ◌/◌, ◌%◌, eqb, take, drop, replicate}
-use Rattle.std.proofs.Math.Seq.{paste}
+use Rattle.std.specs.Prelude.{Bool, cond, not, List, ◌∷◌, ◌++◌, ℕ, ◌+◌, ◌-◌, ◌/◌, ◌%◌, eqb, take, drop}
 use Rattle.std.proofs.lemmas.List.Edits.{sets}
-use Rattle.edition.specs.Stored.{block_bytes, front_bytes}
+use Rattle.block.specs.declared.Kind.{Kind}
+use Rattle.block.specs.declared.Kind.TheVariants.{Header, Links, Table}
+use Rattle.edition.specs.Stored.{block_bytes, front_bytes, header_kind, links_kind, table_kind}
 use Rattle.rows.specs.Lists.{same}
 use Rattle.numbers.specs.Bytes.{number_in, word_most}
 use Rattle.block.specs.Block.{front}
@@ -31,6 +32,8 @@ bad_front kind number used b = not (same (take 6 b) (front kind number used))
 unfoldable pub with_front : ℕ → ℕ → ℕ → List ℕ → List ℕ
 with_front kind number used b = sets b 0 (front kind number used)
 
--- a row with zeros from a place on
-unfoldable pub cleared : List ℕ → ℕ → ℕ → List ℕ
-cleared b from count = paste b from (replicate count 0) count
+-- byte 0 of a block of a kind
+abbrev pub kind_byte : Kind → ℕ
+kind_byte Header = header_kind
+kind_byte Links = links_kind
+kind_byte Table = table_kind

@@ -1,15 +1,15 @@
 // A block of the stored form: what one is refused for, its payload, and how one is made.
 #![tactic(auto)]
 
-ghost use Rattle.std.specs.Prelude.{◌≡◌, false, ◌+◌, ◌*◌, ◌<◌, ◌≤◌, length};
+ghost use Rattle.std.specs.Prelude.{◌≡◌, true, false, MatchOption, ◌+◌, ◌*◌, ◌<◌, ◌≤◌, length};
 ghost use Rattle.edition.specs.Stored.{block_bytes, front_bytes, entry_bytes};
 ghost use Rattle.rows.specs.Count.{some_to};
 ghost use Rattle.block.specs.Bytes.{dirty};
 ghost use Rattle.block.specs.Block.{capacity, record_bytes, check_of, dirty_entry, bad_filler, no_such_block, bad_block, block_verdict};
 ghost use Rattle.block.specs.Block.{payload, payload_place, sealed};
-ghost use Rattle.block.specs.Work.{block_words, word_of, folded_sum, bad_front, with_front, cleared};
+ghost use Rattle.block.specs.Work.{block_words, word_of, folded_sum, bad_front, with_front, kind_byte};
 
-use edition::{Edition, Refusal, Verdict, Why};
+use edition::{Edition, Refusal, Why};
 
 // Where the numbers of a block's front stand: block number, records used, check.
 const NUMBER_AT: usize = 2;
@@ -58,57 +58,72 @@ fn check_of(b: &[u8]) -> u16
     ensures { result ≡ check_of b.now }
 {
     let mut sum = 0;
-    let mut k = 0;
-    while k < WORDS {
+    for k in 0..WORDS {
         sum += word_at(b, k) as u32;
-        k += 1;
     }
     Edition::WORD_MOST - folded(sum)
 }
 
-// How many records a block of a kind holds; 0 where the kind is none of the three.
+// What a block holds.
+#[derive(Clone, Copy)]
+enum Kind {
+    Header,
+    Links,
+    Table,
+}
+
+impl Kind {
+    // How many records a block of this kind holds.
+    #[tactic(auto, unfolding(crate::specs::Block::capacity))]
+    fn capacity(self) -> usize
+        ensures { result ≡ capacity (kind_byte self) }
+    {
+        match self {
+            Kind::Header => Edition::HEADERS_A_BLOCK,
+            Kind::Links => Edition::LINKS_A_BLOCK,
+            Kind::Table => Edition::ENTRIES_A_BLOCK,
+        }
+    }
+
+    // How many bytes a record of this kind takes.
+    #[tactic(auto, unfolding(crate::specs::Block::record_bytes))]
+    fn record_bytes(self) -> usize
+        ensures { result ≡ record_bytes (kind_byte self) }
+    {
+        match self {
+            Kind::Header => Edition::HEADER_BYTES,
+            Kind::Links => Edition::LINK_BYTES,
+            Kind::Table => Edition::ENTRY_BYTES,
+        }
+    }
+}
+
+// The kind that a number stands for; none where it is none of the three.
 #[tactic(auto, unfolding(crate::specs::Block::capacity))]
-fn capacity_of(kind: u16) -> usize
-    ensures { result ≡ capacity kind }
+fn kind_of(number: u16) -> Option<Kind>
+    ensures { MatchOption result (capacity number ≡ 0) (λ k. number ≡ kind_byte k) }
 {
-    if kind == Edition::HEADER_KIND as u16 {
-        return Edition::HEADERS_A_BLOCK;
+    if number == Edition::HEADER_KIND as u16 {
+        Some(Kind::Header)
+    } else if number == Edition::LINKS_KIND as u16 {
+        Some(Kind::Links)
+    } else if number == Edition::TABLE_KIND as u16 {
+        Some(Kind::Table)
+    } else {
+        None
     }
-    if kind == Edition::LINKS_KIND as u16 {
-        return Edition::LINKS_A_BLOCK;
-    }
-    if kind == Edition::TABLE_KIND as u16 {
-        return Edition::ENTRIES_A_BLOCK;
-    }
-    0
 }
 
-// How many bytes a record of a kind takes; 0 where the kind is none of the three.
-#[tactic(auto, unfolding(crate::specs::Block::record_bytes))]
-fn bytes_of_record(kind: u16) -> usize
-    ensures { result ≡ record_bytes kind }
-{
-    if kind == Edition::HEADER_KIND as u16 {
-        return Edition::HEADER_BYTES;
-    }
-    if kind == Edition::LINKS_KIND as u16 {
-        return Edition::LINK_BYTES;
-    }
-    if kind == Edition::TABLE_KIND as u16 {
-        return Edition::ENTRY_BYTES;
-    }
-    0
-}
-
-// Whether no block has this kind and used count.
+// The kind of a block that is asked for by its number and used count; none where no block has them.
 #[tactic(auto, unfolding(crate::specs::Block::no_such_block))]
-fn no_such_block(kind: u16, used: u16) -> bool
-    ensures { result ≡ no_such_block kind used }
+fn block_kind(number: u16, used: u16) -> Option<Kind>
+    ensures { MatchOption result (no_such_block number used ≡ true) (λ k. (number ≡ kind_byte k) × (no_such_block number used ≡ false)) }
 {
-    if used == 0 {
-        return true;
+    let kind = kind_of(number)?;
+    if used == 0 || kind.capacity() < used as usize {
+        return None;
     }
-    capacity_of(kind) < used as usize
+    Some(kind)
 }
 
 // Whether one of the bytes from a place on is not 0.
@@ -117,26 +132,17 @@ fn is_dirty(b: &[u8], from: usize, count: usize) -> bool
     requires { from + count ≤ length b.now }
     ensures { result ≡ dirty b.now from count }
 {
-    let mut j = 0;
-    while j < count {
-        if b[from + j] != 0 {
-            return true;
-        }
-        j += 1;
-    }
-    false
+    b[from..from + count].iter().any(|x| *x != 0)
 }
 
 // Whether a byte inside entry r that should be 0 is not.
+#[tactic(auto, unfolding(crate::specs::Block::dirty_entry))]
 fn is_dirty_entry(b: &[u8], r: usize) -> bool
     requires { front_bytes + (r + 1) * entry_bytes ≤ length b.now }
     ensures { result ≡ dirty_entry b.now r }
 {
     let at = Edition::FRONT_BYTES + r * Edition::ENTRY_BYTES;
-    if is_dirty(b, at + FIRST_ZERO, 1) {
-        return true;
-    }
-    is_dirty(b, at + LAST_ZEROS, 2)
+    is_dirty(b, at + FIRST_ZERO, 1) || is_dirty(b, at + LAST_ZEROS, 2)
 }
 
 // Whether one of the first entries has such a byte.
@@ -144,33 +150,19 @@ fn has_dirty_entry(b: &[u8], used: usize) -> bool
     requires { front_bytes + used * entry_bytes ≤ length b.now }
     ensures { result ≡ some_to (dirty_entry b.now) used }
 {
-    let mut r = 0;
-    while r < used {
-        if is_dirty_entry(b, r) {
-            return true;
-        }
-        r += 1;
-    }
-    false
+    (0..used).any(|r| is_dirty_entry(b, r))
 }
 
 // Whether filler is not 0: the unused payload, or the zeros inside a table's entries.
-fn bad_filler(kind: u16, used: u16, b: &[u8]) -> bool
-    requires { (length b.now ≡ block_bytes) × (no_such_block kind used ≡ false) }
-    ensures { result ≡ bad_filler kind used b.now }
+#[tactic(auto, using(crate::proofs::Sizes::size_fits, crate::proofs::Sizes::heard_entries), unfolding(crate::specs::Block::bad_filler))]
+fn bad_filler(kind: Kind, used: u16, b: &[u8]) -> bool
+    requires { (length b.now ≡ block_bytes) × (no_such_block (kind_byte kind) used ≡ false) }
+    ensures { result ≡ bad_filler (kind_byte kind) used b.now }
 {
-    let size = used as usize * bytes_of_record(kind);
-    if is_dirty(
-        b,
-        Edition::FRONT_BYTES + size,
-        Edition::PAYLOAD_BYTES - size,
-    ) {
-        return true;
-    }
-    if kind != Edition::TABLE_KIND as u16 {
-        return false;
-    }
-    has_dirty_entry(b, used as usize)
+    let size = used as usize * kind.record_bytes();
+    let unused = Edition::PAYLOAD_BYTES - size;
+    is_dirty(b, Edition::FRONT_BYTES + size, unused)
+        || matches!(kind, Kind::Table) && has_dirty_entry(b, used as usize)
 }
 
 // Whether kind, edition, number or used count is not the one asked.
@@ -178,44 +170,37 @@ fn bad_front(kind: u16, number: u16, used: u16, b: &[u8]) -> bool
     requires { length b.now ≡ block_bytes }
     ensures { result ≡ bad_front kind number used b.now }
 {
-    if b[0] as u16 != kind {
-        return true;
-    }
-    if b[1] != Edition::NUMBER {
-        return true;
-    }
-    if numbers::two_at(b, NUMBER_AT) != number {
-        return true;
-    }
-    numbers::two_at(b, USED_AT) != used
+    b[0] as u16 != kind
+        || b[1] != Edition::NUMBER
+        || numbers::two_at(b, NUMBER_AT) != number
+        || numbers::two_at(b, USED_AT) != used
 }
 
 // Whether a block of the right length is refused by 22.
+#[tactic(auto, unfolding(crate::specs::Block::bad_block, crate::specs::Work::bad_front))]
 fn bad_block(kind: u16, number: u16, used: u16, b: &[u8]) -> bool
     requires { length b.now ≡ block_bytes }
     ensures { result ≡ bad_block kind number used b.now }
 {
-    if no_such_block(kind, used) {
+    let Some(known) = block_kind(kind, used) else {
         return true;
-    }
-    if bad_front(kind, number, used, b) {
-        return true;
-    }
-    bad_filler(kind, used, b)
+    };
+    bad_front(kind, number, used, b) || bad_filler(known, used, b)
 }
 
 // Whether lent bytes are the block asked for by kind, number and used count, or the first reason why not: 20, 21, 22.
-pub fn check_block(kind: u16, number: u16, used: u16, b: &[u8]) -> Verdict
+#[tactic(auto, unfolding(crate::specs::Block::block_verdict, crate::specs::Block::bad_check, rows::specs::First::firstly, rows::specs::First::refuse_if))]
+pub fn check_block(kind: u16, number: u16, used: u16, b: &[u8]) -> Result<(), Refusal>
     ensures { result ≡ block_verdict kind number used b.now }
 {
     if b.len() != Edition::BLOCK_BYTES {
-        return Verdict::Refused(Refusal {
+        return Err(Refusal {
             why: Why::BadLength,
             place: 0,
         });
     }
     if numbers::two_at(b, CHECK_AT) != check_of(b) {
-        return Verdict::Refused(Refusal {
+        return Err(Refusal {
             why: Why::BadCheck,
             place: number as usize,
         });
@@ -235,12 +220,13 @@ pub fn payload(kind: u16, number: u16, used: u16, b: &[u8]) -> &[u8]
         × (result.ref_ptr.1 ≡ payload_place kind number used b.now + b.entry.ref_ptr.1) }
 {
     match check_block(kind, number, used, b) {
-        Verdict::Taken => &b[Edition::FRONT_BYTES..Edition::BLOCK_BYTES],
-        Verdict::Refused(_) => &b[0..0],
+        Ok(()) => &b[Edition::FRONT_BYTES..Edition::BLOCK_BYTES],
+        Err(_) => &b[0..0],
     }
 }
 
 // Writes bytes 0 to 5.
+#[tactic(auto, unfolding(crate::specs::Work::with_front, crate::specs::Block::front, numbers::specs::Bytes::bytes_of))]
 fn put_front(kind: u8, number: u16, used: u16, b: &mut [u8])
     requires { length b.old ≡ block_bytes }
     ensures { b.new ≡ with_front kind number used b.old }
@@ -251,36 +237,21 @@ fn put_front(kind: u8, number: u16, used: u16, b: &mut [u8])
     numbers::put_number(b, USED_AT, 2, used as u64);
 }
 
-// Writes zeros from a place on.
-fn clear(b: &mut [u8], from: usize, count: usize)
-    requires { from + count ≤ length b.old }
-    ensures { b.new ≡ cleared b.old from count }
-{
-    let mut j = 0;
-    while j < count {
-        b[from + j] = 0;
-        j += 1;
-    }
-}
-
 // Makes a block of 512 lent bytes that hold the records from byte 8 on: writes the front, zeros behind the records, and the
 // check. Writes nothing where the bytes are not 512, or no block has this kind and used count.
+#[tactic(auto, using(crate::proofs::Sizes::size_fits, crate::proofs::Sealing::front_length), unfolding(crate::specs::Block::sealed))]
 pub fn seal(kind: u8, number: u16, used: u16, b: &mut [u8])
     ensures { b.new ≡ sealed kind number used b.old }
 {
     if b.len() != Edition::BLOCK_BYTES {
         return;
     }
-    if no_such_block(kind as u16, used) {
+    let Some(known) = block_kind(kind as u16, used) else {
         return;
-    }
-    let size = used as usize * bytes_of_record(kind as u16);
+    };
+    let size = used as usize * known.record_bytes();
     put_front(kind, number, used, b);
-    clear(
-        b,
-        Edition::FRONT_BYTES + size,
-        Edition::PAYLOAD_BYTES - size,
-    );
+    b[Edition::FRONT_BYTES + size..].fill(0);
     let check = check_of(b);
     numbers::put_number(b, CHECK_AT, 2, check as u64);
 }

@@ -1,10 +1,10 @@
 -- An entry goes by the tree and by the links that cross the node: networks that agree on these have the same entry there.
 -- Assumes nothing.
+use Rattle.std.specs.Prelude.{Option}
 use mathlib.Core.Path.{◌≡◌, refl, sym, subst, ap, ◌∙◌}
 use mathlib.Core.Bool.{true, false, cond, ◌&&◌}
 use Prim.Native.Nat.{ℕ}
 use lib.Dec.{eqb}
-use Rattle.edition.specs.declared.Found.{Found}
 use Rattle.edition.specs.declared.Measure.{Measure}
 use Rattle.edition.specs.declared.Measure.TheVariants.{Sum, Incr, Max}
 use Rattle.edition.specs.Entries.{root_state, swap_state, none_state, bridge_state, blank}
@@ -82,7 +82,7 @@ module _ (x : ℕ) (g h : Net) (a : SameFor x g h) where
       go (subst (Stands (candidate h x) (before s h x) h.links) (sym (best_by s h x)) (stands (candidate h x) (before s h x) h.links))
       ∙ ap (priced s g x) (best-same s)
     where
-      go : {f : Found} → Stands (candidate h x) (before s h x) h.links f → priced s h x f ≡ priced s g x f
+      go : {f : Option ℕ} → Stands (candidate h x) (before s h x) h.links f → priced s h x f ≡ priced s g x f
       go nobody = refl
       go (somebody {b} l m) = λ i. record { link = b; cost = cost-same s b m i; lower = mark_same b m i }
 

@@ -1,4 +1,5 @@
 -- The verdict of a change as a chain of checks, and what its application leaves. Assumes nothing.
+use Rattle.std.specs.Prelude.{Err}
 use mathlib.Core.Path.{◌≡◌, refl, sym, ap, ◌∙◌}
 use mathlib.Core.Bool.{Bool}
 use mathlib.Core.List.{List, ◌++◌}
@@ -10,8 +11,7 @@ use borrow.Author.Tests.{leb-false}
 use Rattle.edition.specs.declared.Change.{Change}
 use Rattle.edition.specs.declared.Refusal.{Refusal}
 use Rattle.edition.specs.declared.Search.{Search}
-use Rattle.edition.specs.declared.Verdict.{Verdict}
-use Rattle.edition.specs.declared.Verdict.TheVariants.{Taken, Refused}
+use Rattle.edition.specs.Refusals.{Verdict, taken}
 use Rattle.edition.specs.declared.Why.TheVariants.{LinkMissing, BadMark, TreeLink, BreaksShort}
 use Rattle.edition.specs.Limits.{node_limit, no_link}
 use Rattle.entries.specs.Row.{entries_in, past_entries}
@@ -26,7 +26,7 @@ use Rattle.network.specs.Records.{bad_mark}
 use Rattle.tree.specs.Tree.{tree_of, under}
 use Rattle.sound.specs.Sound.{net_verdict}
 use Rattle.sound.specs.Surveyed.{Surveyed}
-use Rattle.sound.proofs.Sounds.{taken}
+use Rattle.sound.proofs.Sounds.{taken as is_taken}
 use Rattle.sound.proofs.Holding.{nodes-few, root_in, first_in, second_in, link_path}
 use Rattle.table.specs.Table.{is_asked, fresh_at, table_verdict}
 use Rattle.table.proofs.Whole.{table-room}
@@ -42,24 +42,24 @@ module _ (links parents : List ℕ) (search : Search) where
 
   -- the order of the checks
   module _ (entries : List ℕ) (c : Change) (v : Verdict) (is : v ≡ table_verdict g entries) where
-    pub first_refuses : (r : Refusal) → v ≡ Refused r → v ≡ change_verdict g entries c
+    pub first_refuses : (r : Refusal) → v ≡ Err r → v ≡ change_verdict g entries c
     unfolding change_verdict
     first_refuses r t = t ∙ sym (head_refuses _ _ r (sym is ∙ t))
 
-    module _ (ok : v ≡ Taken) (m : ℕ) (count : m ≡ links_in links) (w : Verdict) (wis : w ≡ refuse_if (leb m c.link) LinkMissing 0) where
+    module _ (ok : v ≡ taken) (m : ℕ) (count : m ≡ links_in links) (w : Verdict) (wis : w ≡ refuse_if (leb m c.link) LinkMissing 0) where
       second : w ≡ refuse_if (leb g.links c.link) LinkMissing 0
       unfolding net_of
       second = wis ∙ ap (λ k. refuse_if (leb k c.link) LinkMissing 0) count
 
-      pub second_refuses : (r : Refusal) → w ≡ Refused r → w ≡ change_verdict g entries c
+      pub second_refuses : (r : Refusal) → w ≡ Err r → w ≡ change_verdict g entries c
       unfolding change_verdict
       second_refuses r t = t ∙ sym (head_passes _ _ (sym is ∙ ok) ∙ head_refuses _ _ r (sym second ∙ t))
 
-      module _ (there : w ≡ Taken) (b : Bool) (mark : b ≡ bad_mark c.mark) (x : Verdict) (xis : x ≡ refuse_if b BadMark c.link) where
+      module _ (there : w ≡ taken) (b : Bool) (mark : b ≡ bad_mark c.mark) (x : Verdict) (xis : x ≡ refuse_if b BadMark c.link) where
         third : x ≡ refuse_if (bad_mark c.mark) BadMark c.link
         third = xis ∙ ap (λ k. refuse_if k BadMark c.link) mark
 
-        pub third_refuses : (r : Refusal) → x ≡ Refused r → x ≡ change_verdict g entries c
+        pub third_refuses : (r : Refusal) → x ≡ Err r → x ≡ change_verdict g entries c
         unfolding change_verdict
         third_refuses r t =
             t ∙ sym (head_passes _ _ (sym is ∙ ok) ∙ (head_passes _ _ (sym second ∙ there) ∙ head_refuses _ _ r (sym third ∙ t)))
@@ -70,14 +70,14 @@ module _ (links parents : List ℕ) (search : Search) where
             (if_taken_lem _ LinkMissing 0
             (ap (λ k. refuse_if (leb k c.link) LinkMissing 0) (sym count) ∙ (sym wis ∙ there)))
 
-        module _ (serves : x ≡ Taken) (p : Bool)
+        module _ (serves : x ≡ taken) (p : Bool)
             (named : p ≡ is_parent (λ u. get_or parents u no_link) (length parents) c.link) (y : Verdict)
             (yis : y ≡ refuse_if p TreeLink c.link) where
           fourth : y ≡ refuse_if (is_parent g.parent g.nodes c.link) TreeLink c.link
           unfolding net_of
           fourth = yis ∙ ap (λ k. refuse_if k TreeLink c.link) named
 
-          pub fourth_refuses : (r : Refusal) → y ≡ Refused r → y ≡ change_verdict g entries c
+          pub fourth_refuses : (r : Refusal) → y ≡ Err r → y ≡ change_verdict g entries c
           unfolding change_verdict
           fourth_refuses r t =
               t
@@ -86,7 +86,7 @@ module _ (links parents : List ℕ) (search : Search) where
               ∙ (head_passes _ _ (sym second ∙ there) ∙ (head_passes _ _ (sym third ∙ serves) ∙ head_refuses _ _ r (sym fourth ∙ t))))
 
           pub fifth_decides :
-              y ≡ Taken
+              y ≡ taken
               → (s : Bool) → s ≡ breaks g c → (z : Verdict)
               → z ≡ refuse_if s BreaksShort c.link → z ≡ change_verdict g entries c
           unfolding change_verdict
@@ -99,16 +99,16 @@ module _ (links parents : List ℕ) (search : Search) where
               ∙ (head_passes _ _ (sym third ∙ serves) ∙ (head_passes _ _ (sym fourth ∙ spare) ∙ only_one _)))))
 
   -- the application of a change that is taken
-  module _ (entries : List ℕ) (c : Change) (t : change_verdict g entries c ≡ Taken) where
+  module _ (entries : List ℕ) (c : Change) (t : change_verdict g entries c ≡ taken) where
     a : Allowed g c
     a = allowed g entries c t
 
-    table_taken : table_verdict g entries ≡ Taken
+    table_taken : table_verdict g entries ≡ taken
     unfolding change_verdict
     table_taken = head_taken _ _ t
 
-    pub apply_sound : net_verdict g ≡ Taken
-    apply_sound = taken g a.before
+    pub apply_sound : net_verdict g ≡ taken
+    apply_sound = is_taken g a.before
 
     few : length parents ≤ node_limit
     unfolding net_of
@@ -178,7 +178,7 @@ module _ (links parents : List ℕ) (search : Search) where
 
     pub apply_room : length parents ≤ entries_in entries
     unfolding net_of
-    apply_room = table-room g entries Taken (sym table_taken) refl
+    apply_room = table-room g entries taken (sym table_taken) refl
 
     -- the survey of the network is that of the changed one
     pub still-surveyed :
@@ -187,7 +187,7 @@ module _ (links parents : List ℕ) (search : Search) where
     still-surveyed survey s links' q =
         rw q
         (record {
-          taken = taken (net_of (set_link links c) parents search) (still_sound links parents search c a);
+          is_taken = is_taken (net_of (set_link links c) parents search) (still_sound links parents search c a);
           few = λ u. rw (kept_tree links parents search c a) (s.few u);
           room = s.room;
           each = λ x l. rw (kept_tree links parents search c a) (s.each x l);
@@ -197,7 +197,7 @@ module _ (links parents : List ℕ) (search : Search) where
   module _ (entries : List ℕ) (c : Change) (v : Verdict) (is : v ≡ change_verdict g entries c) where
     pub change-refused :
         (r : Refusal)
-        → v ≡ Refused r
+        → v ≡ Err r
         → (v ≡ change_verdict g entries c)
         × (links ≡ (changed parents search c (record { links = links; entries = entries })).links)
         × (entries ≡ (changed parents search c (record { links = links; entries = entries })).entries)
@@ -205,10 +205,10 @@ module _ (links parents : List ℕ) (search : Search) where
     change-refused r t = (is, rw (← is, t), rw (← is, t))
 
     pub change-taken :
-        v ≡ Taken
+        v ≡ taken
         → (links' entries' : List ℕ) → links' ≡ set_link links c
         → entries' ≡ mended g (net_of (set_link links c) parents search) c.link entries
-        → (Taken ≡ change_verdict g entries c)
+        → (taken ≡ change_verdict g entries c)
         × (links' ≡ (changed parents search c (record { links = links; entries = entries })).links)
         × (entries' ≡ (changed parents search c (record { links = links; entries = entries })).entries)
     unfolding changed

@@ -30,7 +30,7 @@ module _ (links parents : List ℕ) (search : Search) where
 
   module _ (survey : List ℕ) (c : Change) (s : Short links parents search survey c) (l : Link) (is : l ≡ link_in links c.link) where
     fine : Sound g
-    fine = sound g s.surveyed.taken
+    fine = sound g s.surveyed.is_taken
 
     first-node : l.first < g.nodes
     unfolding net_of

@@ -1,14 +1,14 @@
 -- The climbs that mark the nodes on the path: each turns the marks of a route, and both together leave 1 on the path between
 -- their ends alone. Assumes nothing.
-use mathlib.Core.Path.{◌≡◌, refl, ap}
+use mathlib.Core.Path.{◌≡◌, refl}
 use mathlib.Core.Bool.{Bool, true, false, not, ◌||◌}
 use mathlib.Core.List.{List}
 use Prim.Native.Nat.{ℕ, ◌<◌, ◌≤◌}
 use native.Mathlib.Omega.{arith}
 use lib.Dec.{eqb}
-use lib.ListN.{length, get_or, set, replicate, get_or-replicate}
+use lib.ListN.{length, get_or, replicate, get_or-replicate}
 use Rattle.edition.specs.declared.Search.{Search}
-use Rattle.edition.specs.declared.Verdict.TheVariants.{Taken}
+use Rattle.edition.specs.Refusals.{taken}
 use Rattle.edition.specs.Limits.{node_limit}
 use Rattle.rows.specs.Lists.{has, up_to, differ}
 use Rattle.rows.proofs.Listed.{up_to-out}
@@ -25,10 +25,6 @@ use Rattle.table.specs.Table.{is_asked}
 use Rattle.change.specs.Work.{Moved, flip, flipped_at}
 use Rattle.change.proofs.Moving.{moved_none, moved_more}
 
-pub flipped : (c : ℕ) (row : List ℕ) (v : ℕ) → v ≡ flip (get_or row c 0) → set row c v ≡ flipped_at c row
-unfolding flipped_at
-flipped c row v q = ap (set row c) q
-
 -- what the loop keeps
 pub record Flipping (t : Tree) (u : ℕ) (before : List ℕ) (c : ℕ) (after : List ℕ) : Type 0 where
   pub on : under t c u ≡ true
@@ -38,7 +34,7 @@ module _ (links parents : List ℕ) (search : Search) where
   abbrev g : Net
   g = net_of links parents search
 
-  module _ (ok : net_verdict g ≡ Taken) (u : ℕ) (low : u < length parents) (before : List ℕ) (room : length parents ≤ length before) where
+  module _ (ok : net_verdict g ≡ taken) (u : ℕ) (low : u < length parents) (before : List ℕ) (room : length parents ≤ length before) where
     s : Sound g
     s = sound g ok
 

@@ -8,7 +8,7 @@ use lib.ListN.{length}
 use borrow.Author.Tests.{ne_eqb}
 use Rattle.edition.specs.declared.Change.{Change}
 use Rattle.edition.specs.declared.Search.{Search}
-use Rattle.edition.specs.declared.Verdict.TheVariants.{Taken}
+use Rattle.edition.specs.Refusals.{taken}
 use Rattle.rows.specs.Count.{rows_to}
 use Rattle.rows.proofs.Tests.{or_swap}
 use Rattle.rows.proofs.Records.{rows_cong}
@@ -117,7 +117,7 @@ module _ (links parents : List ℕ) (search : Search) where
 -- a change that is taken, in the words of the contract
 module _ (parents : List ℕ) (search : Search) where
   pub Takes : Change → Lent → Type 0
-  Takes c lent = change_verdict (net_of lent.links parents search) lent.entries c ≡ Taken
+  Takes c lent = change_verdict (net_of lent.links parents search) lent.entries c ≡ taken
 
   after : Change → Lent → Lent
   after c lent =
@@ -132,7 +132,7 @@ module _ (parents : List ℕ) (search : Search) where
 
   room-is : (c : Change) (lent : Lent) → Takes c lent → length parents ≤ entries_in lent.entries
   unfolding Takes change_verdict net_of
-  room-is c lent t = table-room (net_of lent.links parents search) lent.entries Taken (sym (head_taken _ _ t)) refl
+  room-is c lent t = table-room (net_of lent.links parents search) lent.entries taken (sym (head_taken _ _ t)) refl
 
   may : (c : Change) (lent : Lent) → Takes c lent → Allowed (net_of lent.links parents search) c
   unfolding Takes

@@ -9,10 +9,9 @@ use lib.ListN.{length, get_or, get_or-eq_default}
 use borrow.Author.Tests.{eqb-true, ne_eqb, leb-false, ltb-true, ltb-false}
 use Rattle.edition.specs.declared.Change.{Change}
 use Rattle.edition.specs.declared.Search.{Search}
-use Rattle.edition.specs.declared.Verdict.TheVariants.{Taken}
+use Rattle.edition.specs.Refusals.{taken, refused}
 use Rattle.edition.specs.declared.Why.TheVariants.{BadEnds, BadMark, BadParent, NoRoute, NotShort, LinkMissing, TreeLink, BreaksShort}
 use Rattle.edition.specs.Limits.{no_link}
-use Rattle.edition.specs.Refusals.{refused}
 use Rattle.rows.proofs.Best.{some_none}
 use Rattle.rows.proofs.Refusing.{head_taken, rest-taken, head_refuses, head_passes, if_taken_lem, at_passes, at_refuses}
 use Rattle.network.specs.declared.Link.{Link}
@@ -42,7 +41,7 @@ pub record Allowed (g : Net) (c : Change) : Type 0 where
   pub spare-ok : is_parent g.parent g.nodes c.link ≡ false
   pub fits : breaks g c ≡ false
 
-pub allowed : (g : Net) (entries : List ℕ) (c : Change) → change_verdict g entries c ≡ Taken → Allowed g c
+pub allowed : (g : Net) (entries : List ℕ) (c : Change) → change_verdict g entries c ≡ taken → Allowed g c
 unfolding change_verdict
 allowed g entries c t =
     let t11 = rest-taken _ _ t in
@@ -50,7 +49,7 @@ allowed g entries c t =
     let t12 = rest-taken _ _ t6 in
     let t13 = rest-taken _ _ t12 in
     record {
-      before = sound g (table_sound g entries Taken (sym (head_taken _ _ t)) refl);
+      before = sound g (table_sound g entries taken (sym (head_taken _ _ t)) refl);
       there = leb-false g.links c.link (if_taken_lem _ LinkMissing 0 (head_taken _ _ t11));
       mark_ok = if_taken_lem _ BadMark c.link (head_taken _ _ t6);
       spare-ok = if_taken_lem _ TreeLink c.link (head_taken _ _ t12);

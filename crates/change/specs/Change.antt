@@ -3,10 +3,9 @@
 use Rattle.std.specs.Prelude.{Bool, cond, not, ◌&&◌, List, [], ◌∷◌, ◌++◌, ℕ, eqb, leb}
 use Rattle.edition.specs.declared.Search.{Search}
 use Rattle.edition.specs.declared.Change.{Change}
-use Rattle.edition.specs.declared.Verdict.{Verdict}
+use Rattle.edition.specs.Refusals.{Verdict, if_taken}
 use Rattle.edition.specs.declared.Why.TheVariants.{LinkMissing, BadMark, TreeLink, BreaksShort}
 use Rattle.edition.specs.Limits.{served}
-use Rattle.edition.specs.Refusals.{if_taken}
 use Rattle.rows.specs.Count.{rows_to}
 use Rattle.rows.specs.First.{refuse_if, firstly}
 use Rattle.network.specs.declared.Link.{Link}

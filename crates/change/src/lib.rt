@@ -4,8 +4,8 @@
 ghost use Rattle.std.specs.Prelude.{◌≡◌, List, ℕ, ◌<◌, ◌≤◌, length};
 ghost use Rattle.edition.specs.declared.Search.{Search};
 ghost use Rattle.edition.specs.Limits.{node_limit};
-ghost use Rattle.edition.specs.declared.Verdict.TheVariants.{Taken};
-ghost use Rattle.network.specs.Network.{net_of};
+ghost use Rattle.edition.specs.Refusals.{taken};
+ghost use Rattle.network.specs.Network.{lent, net_of};
 ghost use Rattle.tree.specs.Tree.{tree_of, under};
 ghost use Rattle.survey.specs.Row.{nodes_in};
 ghost use Rattle.sound.specs.Sound.{net_verdict};
@@ -13,8 +13,8 @@ ghost use Rattle.sound.specs.Surveyed.{Surveyed, sound_row};
 ghost use Rattle.change.specs.Change.{breaks, change_verdict, set_link, mended, Lent, changed};
 ghost use Rattle.change.specs.Work.{flip, flipped_at, Moved, Short};
 
-use edition::{Change, Edition, Memory, Search, Verdict, Why};
-use network::Link;
+use edition::{Change, Edition, Memory, Refusal, Search, Why};
+use network::{Link, Network};
 
 // Whether the change sets a link in service whose new length breaks shortness, by a survey of the network.
 fn breaks_short(links: &[u16], survey: &[u64], change: Change) -> bool
@@ -33,84 +33,52 @@ fn breaks_short(links: &[u16], survey: &[u64], change: Change) -> bool
 }
 
 // Whether a change is taken, and in a row to work in the survey of the network.
-fn judge(
-    links: &[u16],
-    parents: &[u16],
-    search: Search,
-    survey: &mut [u64],
-    entries: &[u64],
-    change: Change,
-) -> Verdict
+fn judge(net: Network, survey: &mut [u64], entries: &[u64], change: Change) -> Result<(), Refusal>
     requires { node_limit ≤ nodes_in survey.old }
-    ensures { let g = net_of links.now parents.now search in
+    ensures { let g = lent net.entry in
         (result ≡ change_verdict g entries.now change)
         × (survey.new ≡ sound_row g survey.old) }
 {
     let e = change.link as usize;
-    let table = table::survey_table(links, parents, search, survey, entries);
-    let Verdict::Taken = table else {
-        return table;
-    };
-    let there = rows::refuse_if(network::links_in(links) <= e, Why::LinkMissing, 0);
-    let Verdict::Taken = there else {
-        return there;
-    };
-    let marked = rows::refuse_if(network::bad_mark(change.mark), Why::BadMark, e);
-    let Verdict::Taken = marked else {
-        return marked;
-    };
-    let spare = rows::refuse_if(network::is_parent(parents, e), Why::TreeLink, e);
-    let Verdict::Taken = spare else {
-        return spare;
-    };
-    rows::refuse_if(breaks_short(links, survey, change), Why::BreaksShort, e)
+    table::survey_table(net, survey, entries)?;
+    rows::refuse_if(network::links_in(net.links) <= e, Why::LinkMissing, 0)?;
+    rows::refuse_if(network::bad_mark(change.mark), Why::BadMark, e)?;
+    rows::refuse_if(network::is_parent(net.parents, e), Why::TreeLink, e)?;
+    rows::refuse_if(breaks_short(net.links, survey, change), Why::BreaksShort, e)
 }
 
 // Whether a change is taken: 1 to 4, 14, 5 to 10, 11, 6 with the changed link as its place, 12, 13. Nothing is written.
-pub fn check_change(
-    links: &[u16],
-    parents: &[u16],
-    search: Search,
-    entries: &[u64],
-    change: Change,
-) -> Verdict
-    ensures { let g = net_of links.now parents.now search in
+pub fn check_change(net: Network, entries: &[u64], change: Change) -> Result<(), Refusal>
+    ensures { let g = lent net.entry in
         result ≡ change_verdict g entries.now change }
 {
     let mut survey = [0u64; survey::ROW];
-    judge(links, parents, search, &mut survey, entries, change)
-}
-
-// The other of 0 and 1.
-#[tactic(auto, unfolding(crate::specs::Work::flip))]
-fn other_mark(mark: u64) -> u64
-    ensures { result ≡ flip mark }
-{
-    if mark == 0 { 1 } else { 0 }
+    judge(net, &mut survey, entries, change)
 }
 
 // What the row has for node c is turned round: 0 becomes 1 and 1 becomes 0.
+#[tactic(auto, unfolding(crate::specs::Work::flipped_at, crate::specs::Work::flip))]
 fn flip_at(asked: &mut [u64], c: usize)
     requires { c < length asked.old }
     ensures { asked.new ≡ flipped_at c asked.old }
 {
-    asked[c] = other_mark(asked[c]);
+    asked[c] = u64::from(asked[c] == 0);
 }
 
 // What the row has for the nodes on the route of u is turned round: 0 becomes 1 and 1 becomes 0.
-fn flip_up(links: &[u16], parents: &[u16], search: Search, asked: &mut [u64], u: usize)
-    requires { let g = net_of links.now parents.now search in
-        let n = length parents.now in
-        (net_verdict g ≡ Taken)
+fn flip_up(net: Network, asked: &mut [u64], u: usize)
+    requires { let g = lent net in
+        let n = length net.parents.now in
+        (net_verdict g ≡ taken)
         × (u < n)
         × (n ≤ length asked.old) }
-    ensures { let g = net_of links.now parents.now search in
+    ensures { let g = lent net.entry in
         Moved (λ x. under (tree_of g) x u) flip asked.old asked.new }
 {
     let mut c = u;
-    while c != search.root as usize {
+    while c != net.search.root as usize {
         flip_at(asked, c);
-        c = tree::up(links, parents, search, c);
+        c = tree::up(net, c);
     }
     flip_at(asked, c);
 }
@@ -144,7 +112,7 @@ fn apply(
     change: Change,
 )
     requires { let g = net_of links.old parents.now search in
-        (change_verdict g entries.old change ≡ Taken)
+        (change_verdict g entries.old change ≡ taken)
         × Surveyed g survey.now }
     ensures { let g = net_of links.old parents.now search in
         let links' = set_link links.old change in
@@ -154,10 +122,20 @@ fn apply(
 {
     let l = network::link_at(links, change.link as usize);
     let mut asked = [0u64; Memory::NODES];
-    flip_up(links, parents, search, &mut asked, l.first as usize);
-    flip_up(links, parents, search, &mut asked, l.second as usize);
+    let before = Network {
+        links,
+        parents,
+        search,
+    };
+    flip_up(before, &mut asked, l.first as usize);
+    flip_up(before, &mut asked, l.second as usize);
     set_link(links, change.link as usize, change.length, change.mark);
-    table::refresh_surveyed(links, parents, search, survey, &asked, entries);
+    let after = Network {
+        links,
+        parents,
+        search,
+    };
+    table::refresh_surveyed(after, survey, &asked, entries);
 }
 
 // The change of one link. Refused, it changes nothing lent. Taken, it changes that link's record alone, and the table that was
@@ -168,7 +146,7 @@ pub fn change(
     search: Search,
     entries: &mut [u64],
     change: Change,
-) -> Verdict
+) -> Result<(), Refusal>
     ensures { let lent : Lent = record { links = links.entry.now; entries = entries.old } in
         let g = net_of links.entry.now parents.now search in
         let after = changed parents.now search change lent in
@@ -177,10 +155,12 @@ pub fn change(
         × (entries.new ≡ after.entries) }
 {
     let mut survey = [0u64; survey::ROW];
-    let said = judge(links, parents, search, &mut survey, entries, change);
-    let Verdict::Taken = said else {
-        return said;
+    let net = Network {
+        links,
+        parents,
+        search,
     };
+    judge(net, &mut survey, entries, change)?;
     apply(links, parents, search, &survey, entries, change);
-    Verdict::Taken
+    Ok(())
 }

@@ -2,7 +2,7 @@
 // wrong answers false, which its caller hands up.
 #![tactic(auto)]
 
-ghost use Rattle.std.specs.Prelude.{◌≡◌, true, false, ◌+◌, ◌-◌, ◌≤◌, leb, length, IfOk};
+ghost use Rattle.std.specs.Prelude.{◌≡◌, true, false, ◌+◌, ◌≤◌, leb, length};
 ghost use Rattle.desk.specs.Longest.{longest_file, longest_text};
 
 use edition::{Edition, Refusal, Why};
@@ -28,13 +28,6 @@ impl Desk {
     pub const FILE: usize = Edition::FILE_BYTES;
 
     pub const TEXT: usize = 524288;
-}
-
-// How many bytes were read, or that the file could not be read.
-#[derive(Clone, Copy)]
-pub enum Got {
-    Is(usize),
-    Not,
 }
 
 // Says something on standard error.
@@ -231,20 +224,15 @@ impl fmt::Write for Reason {
 
 // The first bytes of a text, or all of it where it has fewer.
 fn first(text: &[u8], size: usize) -> &[u8] {
-    if size < text.len() {
-        return &text[0..size];
-    }
-    text
+    &text[..size.min(text.len())]
 }
 
 // How many bytes of an error's text stand before its number, which the library puts behind what the system says of it.
 fn unnumbered(text: &[u8]) -> usize {
-    for i in 0..text.len() {
-        if text[i..].starts_with(b" (os error ") {
-            return i;
-        }
-    }
-    text.len()
+    let number: &[u8] = b" (os error ";
+    text.windows(number.len())
+        .position(|part| part == number)
+        .unwrap_or(text.len())
 }
 
 // Says why something failed, as the system says it: `NAME: TEXT`.
@@ -283,25 +271,13 @@ fn create<R: Files>(rt: &R, name: &[u8]) -> Result<R::File> {
         .open(rt, path_of(name)?)
 }
 
-// Reads once into the room from a place on, and answers how many bytes, 0 at the file's end, or why it could not.
-fn read_once<F: Read>(file: &mut F, room: &mut [u8], at: usize) -> Result<usize>
-    ensures { IfOk result (λ n. n ≤ length room.new - at) }
-{
-    let end = room.len();
-    if end < at {
-        return Ok(0);
-    }
-    file.read(&mut room[at..end])
-}
-
 // Reads until the file ends or the room is full, and answers how many bytes that is, or why a read failed.
 fn read_on<F: Read>(file: &mut F, room: &mut [u8]) -> Result<usize> {
-    let end = room.len();
     let mut done = 0;
-    while done < end {
-        let more = read_once(file, room, done)?;
+    while done < room.len() {
+        let more = file.read(&mut room[done..])?;
         if more == 0 {
-            return Ok(done);
+            break;
         }
         done += more;
     }
@@ -322,16 +298,16 @@ fn read_all<R: Files>(rt: &R, name: &[u8], room: &mut [u8]) -> Result<usize> {
     read_on(&mut file, room)
 }
 
-// Reads the file, or as much of it as the room holds, and answers how many bytes that is. Where it cannot be opened, or not
-// be read to its end, that is said.
-pub fn read<R: Files>(rt: &R, name: &[u8], room: &mut [u8]) -> Got
+// Reads the file, or as much of it as the room holds, and answers how many bytes that is; none where it cannot be opened, or not
+// be read to its end, which is said.
+pub fn read<R: Files>(rt: &R, name: &[u8], room: &mut [u8]) -> Option<usize>
     ensures { length room.new ≡ length room.old }
 {
     match read_all(rt, name, room) {
-        Ok(size) => Got::Is(size),
+        Ok(size) => Some(size),
         Err(error) => {
             fail(name, error);
-            Got::Not
+            None
         }
     }
 }
@@ -354,18 +330,13 @@ pub fn print<R: Print>(rt: &R, text: &[u8], size: usize) -> bool
 }
 
 // Copies a text into the room from a place on, where it fits, and answers the place behind it.
-fn append(room: &mut [u8], at: usize, text: &[u8]) -> usize {
-    if room.len() < at {
+fn append(room: &mut [u8], at: usize, text: &[u8]) -> usize
+    ensures { at ≤ length room.old → result ≤ length room.new }
+{
+    if room.len() < at || room.len() - at < text.len() {
         return at;
     }
-    if room.len() - at < text.len() {
-        return at;
-    }
-    let mut i = 0;
-    while i < text.len() {
-        room[at + i] = text[i];
-        i += 1;
-    }
+    room[at..at + text.len()].copy_from_slice(text);
     at + text.len()
 }
 
@@ -428,18 +399,6 @@ fn is_free<R: Files + Alloc>(rt: &R, name: &[u8]) -> bool {
     complain(name, b"there is a file of this name")
 }
 
-// Where the last part of a name begins: behind its last `/`, or at 0 where it has none.
-fn last_part(name: &[u8]) -> usize {
-    let mut i = name.len();
-    while 0 < i {
-        if name[i - 1] == b'/' {
-            return i;
-        }
-        i -= 1;
-    }
-    0
-}
-
 // Opens a folder and waits until it is on the disk.
 fn sync_open<R: Files>(rt: &R, folder: &[u8]) -> Result<()> {
     open(rt, folder)?.sync_all()
@@ -450,16 +409,12 @@ fn sync_folder<R: Files>(rt: &R, folder: &[u8]) -> bool {
     sync_open(rt, folder).is_ok()
 }
 
-// The same for the folder in which a name stands.
+// The same for the folder in which a name stands: up to its last `/`, or the one that is worked in where it has none.
 fn sync_name<R: Files>(rt: &R, name: &[u8]) -> bool {
-    let k = last_part(name);
-    if k == 0 {
-        return sync_folder(rt, b".");
+    match name.iter().rposition(|byte| *byte == b'/') {
+        Some(i) => sync_folder(rt, &name[..=i]),
+        None => sync_folder(rt, b"."),
     }
-    if name.len() < k {
-        return false;
-    }
-    sync_folder(rt, &name[0..k])
 }
 
 // Gives a file another name.
@@ -538,10 +493,7 @@ fn write_bytes<R: Files + Print + Alloc>(
     let mut room = [0u8; Desk::NAME + 5];
     let named = append(&mut room, 0, name);
     let ended = append(&mut room, named, b".part");
-    if room.len() < ended {
-        return false;
-    }
-    make(rt, &room[0..ended], name, bytes, out, waits)
+    make(rt, &room[..ended], name, bytes, out, waits)
 }
 
 // Makes a new file of the first bytes of a row, as many as `size`, and answers whether it did, which it does of no more bytes

@@ -1,4 +1,3 @@
-pub mod Putting
 pub mod Telling
 pub mod Answering
 pub mod Words

@@ -3,9 +3,8 @@ use mathlib.Core.Path.{◌≡◌, refl}
 use mathlib.Core.Bool.{true}
 use mathlib.Core.List.{List, [], ◌∷◌}
 use Prim.Native.Nat.{ℕ}
-use Rattle.edition.specs.declared.Verdict.{Verdict}
+use Rattle.edition.specs.Refusals.{Verdict, number_of}
 use Rattle.edition.specs.declared.Why.TheVariants.{NoRoom}
-use Rattle.edition.specs.Refusals.{number_of}
 use Rattle.rows.specs.Lists.{has}
 use Rattle.rows.proofs.Numbered.{Gives, if_gives, none_gives, first_gives, gives_left}
 use Rattle.network.specs.Network.{Net, net_of}

@@ -1,4 +1,5 @@
 -- Every refusal that a call from C answers has a place that the word holds, so that the word gives it back. Assumes nothing.
+use Rattle.std.specs.Prelude.{Err, None, Ok, Option, Some}
 use mathlib.Core.Path.{◌≡◌, refl}
 use mathlib.Core.Bool.{Bool, true, false}
 use mathlib.Core.List.{List, [], ◌∷◌}
@@ -7,13 +8,10 @@ use native.Mathlib.Omega.{arith}
 use lib.Dec.{leb}
 use borrow.Author.Tests.{leb-false}
 use Rattle.edition.specs.declared.Change.{Change}
-use Rattle.edition.specs.declared.Found.{Found}
-use Rattle.edition.specs.declared.Found.TheVariants.{Nothing, At}
 use Rattle.edition.specs.declared.Limits.{Limits}
 use Rattle.edition.specs.declared.Refusal.{Refusal}
 use Rattle.edition.specs.declared.Search.{Search}
-use Rattle.edition.specs.declared.Verdict.{Verdict}
-use Rattle.edition.specs.declared.Verdict.TheVariants.{Taken, Refused}
+use Rattle.edition.specs.Refusals.{Verdict, taken}
 use Rattle.edition.specs.declared.Why.{Why}
 use Rattle.edition.specs.declared.Why.TheVariants.{NodeCount, LinkCount, BadRoot, BadDepth, BadRule, BadEnds, BadMark, BadParent, NoRoute, NotShort, NoRoom}
 use Rattle.edition.specs.declared.Why.TheVariants.{LinkMissing, TreeLink, BreaksShort, BadStart, BadFailed, NoSwap, BadLength, BadCheck, BadBlock, BadEntry}
@@ -44,18 +42,18 @@ use Rattle.doeragyeol.proofs.Words.{place_back}
 
 -- a verdict that has no place, or one that a word holds
 pub data Placed : Verdict → Type 0 where
-  taken : Placed Taken
-  placed : {r : Refusal} → r.place ≤ place_most → Placed (Refused r)
+  is_taken : Placed taken
+  placed : {r : Refusal} → r.place ≤ place_most → Placed (Err r)
 
 -- its word gives the place back
-pub word-place : (r : Refusal) → Placed (Refused r) → word_of (Refused r) % (place_most + 1) ≡ r.place
+pub word-place : (r : Refusal) → Placed (Err r) → word_of (Err r) % (place_most + 1) ≡ r.place
 word-place r (placed l) = place_back r l
 
 -- one law for each way a check is written
 if_placed : (b : Bool) (why : Why) (place : ℕ) → (b ≡ true → place ≤ place_most) → Placed (refuse_if b why place)
 unfolding refuse_if
 if_placed true why place l = placed (l refl)
-if_placed false why place l = taken
+if_placed false why place l = is_taken
 
 at_zero : (b : Bool) (why : Why) → Placed (refuse_if b why 0)
 at_zero b why = if_placed b why 0 (λ q. omega arith)
@@ -64,22 +62,22 @@ at_placed : (p : ℕ → Bool) (k : ℕ) (why : Why) → k ≤ place_most → Pl
 unfolding refuse_at refused_at
 at_placed p k why l = go (first_to p k) (first-is p k)
   where
-    go : (f : Found) → Lowest p k f → Placed (refused_at why f)
-    go Nothing n = taken
-    go (At e) (here low q n) = let fits : e ≤ place_most = omega (arith, low, l) in placed fits
+    go : (f : Option ℕ) → Lowest p k f → Placed (refused_at why f)
+    go None n = is_taken
+    go (Some e) (here low q n) = let fits : e ≤ place_most = omega (arith, low, l) in placed fits
 
 end : Placed (firstly [])
 unfolding firstly
-end = taken
+end = is_taken
 
-next : (v : Verdict) (rest : List Verdict) → Placed v → (v ≡ Taken → Placed (firstly rest)) → Placed (firstly (v ∷ rest))
+next : (v : Verdict) (rest : List Verdict) → Placed v → (v ≡ taken → Placed (firstly rest)) → Placed (firstly (v ∷ rest))
 unfolding firstly
-next Taken rest p q = q refl
-next (Refused r) rest p q = p
+next (Ok _) rest p q = q refl
+next (Err r) rest p q = p
 
 to_placed : (f : ℕ → Verdict) (k : ℕ) → ((j : ℕ) → j < k → Placed (f j)) → Placed (verdict_to f k)
 unfolding verdict_to
-to_placed f zero h = taken
+to_placed f zero h = is_taken
 to_placed f (suc k) h =
     next _ _ (to_placed f k (λ j l. h j (omega (arith, l)))) (λ q. next _ _ (h k (omega arith)) (λ r. end))
 
@@ -131,7 +129,7 @@ unfolding map_said map_verdict
 map-placed g words row = then_placed (map_verdict g words) 2 row (roomed g _)
 
 -- a link that 11 leaves
-there-placed : (g : Net) (entries : List ℕ) (e : ℕ) → table_verdict g entries ≡ Taken → refuse_if (leb g.links e) LinkMissing 0 ≡ Taken → e ≤ place_most
+there-placed : (g : Net) (entries : List ℕ) (e : ℕ) → table_verdict g entries ≡ taken → refuse_if (leb g.links e) LinkMissing 0 ≡ taken → e ≤ place_most
 unfolding table_verdict net_verdict
 there-placed g entries e t there =
     omega (arith, sized-links memory_limits _ _ _ (head_taken _ _ (head_taken _ _ t)), leb-false g.links e (if_taken_lem _ LinkMissing 0 there))
@@ -164,7 +162,7 @@ module _ (file : List ℕ) (rows : Rows) where
       (λ a. next _ _ (block-placed file 0 0 0 (omega arith))
       (λ b. next _ _ (sizes_placed edition_limits (nodes_read file) (links_read file) (search_read file)) (λ d. end)))
 
-  module _ (t : head_verdict file ≡ Taken) where
+  module _ (t : head_verdict file ≡ taken) where
     nodes-few : nodes_read file ≤ edition_limits.nodes
     unfolding head_verdict
     nodes-few = sized-nodes edition_limits _ _ _ (head_taken _ _ (rest-taken _ _ (rest-taken _ _ t)))

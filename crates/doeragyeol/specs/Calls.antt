@@ -1,8 +1,8 @@
 -- What each call from C that answers values says, and what the lent rows then hold. `row` is the row lent for the values.
 -- Assumes nothing.
-use Rattle.std.specs.Prelude.{cond, List, [], ◌∷◌, ℕ, ltb, length}
-use Rattle.edition.specs.declared.Verdict.{Verdict}
-use Rattle.edition.specs.Refusals.{if_taken}
+use Rattle.std.specs.Prelude.{Result, Ok, Err, cond, List, [], ◌∷◌, ℕ, ltb, length}
+use Rattle.edition.specs.declared.Refusal.{Refusal}
+use Rattle.edition.specs.Refusals.{Verdict, if_taken}
 use Rattle.edition.specs.Stored.{by_number}
 use Rattle.network.specs.Network.{Net, net_of}
 use Rattle.tree.specs.Tree.{tree_of, apart}
@@ -11,7 +11,7 @@ use Rattle.sound.specs.Sound.{net_verdict}
 use Rattle.map.specs.Map.{map_verdict, map_row, count_unprotected, lowest}
 use Rattle.forward.specs.declared.Ask.{Ask}
 use Rattle.forward.specs.declared.Applies.{Applies}
-use Rattle.forward.specs.declared.Applies.TheVariants.{Ordinary, Detour, Neither}
+use Rattle.forward.specs.declared.Applies.TheVariants.{Ordinary, Detour}
 use Rattle.forward.specs.Answers.{forward_verdict, applies, ordinary_row, detour_row}
 use Rattle.archive.specs.Writer.{file_length, write_verdict, written_row}
 use Rattle.archive.specs.Reader.{nodes_read, links_read, search_read, Rows, read_verdict, rows_read}
@@ -94,10 +94,10 @@ unfoldable pub detour_left : Net → Ask → List ℕ → List ℕ → List ℕ 
 detour_left g a ordinary detour row = if_taken (forward_said g a ordinary detour row) (detour_row g a ordinary detour) detour
 
 -- The three values: 0 where the ordinary row applies and 1 where the detour row does, how many nodes the list has, and how long it is.
-unfoldable pub way_values : Applies → List ℕ
-way_values (Ordinary w) = 0 ∷ w.nodes ∷ w.length ∷ []
-way_values (Detour w) = 1 ∷ w.nodes ∷ w.length ∷ []
-way_values (Neither r) = []
+unfoldable pub way_values : Result Applies Refusal → List ℕ
+way_values (Ok (Ordinary w)) = 0 ∷ w.nodes ∷ w.length ∷ []
+way_values (Ok (Detour w)) = 1 ∷ w.nodes ∷ w.length ∷ []
+way_values (Err r) = []
 
 -- What the row lent for its three values then holds.
 unfoldable pub way_row : Net → Ask → List ℕ → List ℕ → List ℕ → List ℕ

@@ -1,9 +1,7 @@
 -- What a call from C answers: one word, and values at the beginning of a lent row. Assumes nothing.
-use Rattle.std.specs.Prelude.{List, [], ◌∷◌, ◌++◌, ℕ, ◌+◌, ◌*◌, min, ltb, length, drop}
-use Rattle.edition.specs.declared.Verdict.{Verdict}
-use Rattle.edition.specs.declared.Verdict.TheVariants.{Taken, Refused}
+use Rattle.std.specs.Prelude.{Err, Ok, List, [], ◌∷◌, ◌++◌, ℕ, ◌+◌, ◌*◌, min, ltb, length, drop}
+use Rattle.edition.specs.Refusals.{Verdict, number_of, if_taken}
 use Rattle.edition.specs.declared.Why.TheVariants.{NoRoom}
-use Rattle.edition.specs.Refusals.{number_of, if_taken}
 use Rattle.rows.specs.First.{refuse_if, firstly}
 
 -- The version of the interface.
@@ -16,8 +14,8 @@ place_most = 65535
 
 -- The word of a verdict: 0, or the refusal's number times 65,536 and its place, a larger one as 65,535.
 unfoldable pub word_of : Verdict → ℕ
-word_of Taken = 0
-word_of (Refused r) = number_of r.why * (place_most + 1) + min r.place place_most
+word_of (Ok _) = 0
+word_of (Err r) = number_of r.why * (place_most + 1) + min r.place place_most
 
 -- A check, and then 10 at place 0 where the row lent for n values is shorter.
 unfoldable pub then_room : Verdict → ℕ → List ℕ → Verdict

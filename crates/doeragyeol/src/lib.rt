@@ -2,30 +2,26 @@
 // version.
 #![tactic(auto)]
 
-ghost use Rattle.std.specs.Prelude.{◌≡◌, [], ◌∷◌, ◌≤◌, min, length};
-ghost use Rattle.edition.specs.declared.Verdict.TheVariants.{Refused};
+ghost use Rattle.std.specs.Prelude.{◌≡◌, [], ◌∷◌, ◌≤◌, length};
 ghost use Rattle.edition.specs.declared.Why.TheVariants.{NoRoom};
 ghost use Rattle.edition.specs.Refusals.{refused};
 ghost use Rattle.rows.specs.First.{firstly};
-ghost use Rattle.network.specs.Network.{net_of};
+ghost use Rattle.network.specs.Network.{lent};
 ghost use Rattle.sound.specs.Sound.{net_verdict};
 ghost use Rattle.table.specs.Table.{table_verdict, table_row};
 ghost use Rattle.change.specs.Change.{change_verdict, Lent, changed};
 ghost use Rattle.edition.specs.declared.Change.{Change};
 ghost use Rattle.edition.specs.declared.Measure.TheVariants.{Sum, Incr, Max};
 ghost use Rattle.forward.specs.declared.Ask.{Ask};
-ghost use Rattle.doeragyeol.specs.Word.{version, place_most, word_of, answered};
+ghost use Rattle.doeragyeol.specs.Word.{version, word_of, answered};
 ghost use Rattle.doeragyeol.specs.Calls.{lent_net, filed_net, lent_rows, check_said, sizes_row, map_said, words_row, open_row, write_said, file_row};
 ghost use Rattle.doeragyeol.specs.Calls.{length_row};
 ghost use Rattle.doeragyeol.specs.Calls.{read_said, rows_left, header_row, forward_said, ordinary_left, detour_left, way_row};
 ghost use Rattle.doeragyeol.specs.Calls.{tree_net, distance_said, apart_row};
 
-use archive::{Header, ReadAnswer, WriteAnswer};
-use edition::{Aim, Change, Measure, Memory, Refusal, Search, Verdict, Why};
+use edition::{Aim, Change, Measure, Memory, Refusal, Search, Why};
 use forward::{Applies, Ask};
-use map::MapAnswer;
-use sound::Checked;
-use tree::Answer;
+use network::Network;
 
 // The version of the interface: what the header declares. A landing that changes that raises it, here and in the name below.
 const VERSION: u32 = 6;
@@ -54,25 +50,13 @@ const ORDINARY: u64 = 0;
 
 const DETOUR: u64 = 1;
 
-// A place, as far as a word holds it.
-fn place_part(place: usize) -> u32
-    ensures { result ≡ min place place_most }
-{
-    if place < PLACE_MOST as usize {
-        place as u32
-    } else {
-        PLACE_MOST
-    }
-}
-
-// The word of a refusal.
+// The word of a refusal; its place as far as a word holds it.
 #[tactic(auto, unfolding(crate::specs::Word::word_of))]
 fn refusal_word(refusal: Refusal) -> u32
-    ensures { result ≡ word_of (Refused refusal) }
+    ensures { result ≡ word_of (Err refusal) }
 {
-    let why = refusal.why;
-    let place = place_part(refusal.place);
-    edition::number(why) as u32 * (PLACE_MOST + 1) + place
+    let place = refusal.place.min(PLACE_MOST as usize) as u32;
+    edition::number(refusal.why) as u32 * (PLACE_MOST + 1) + place
 }
 
 // The word of 10 at place 0.
@@ -87,63 +71,33 @@ fn no_room_word() -> u32
 
 // The word of a verdict.
 #[tactic(auto, unfolding(crate::specs::Word::word_of))]
-fn word(said: Verdict) -> u32
+fn word(said: Result<(), Refusal>) -> u32
     ensures { result ≡ word_of said }
 {
     match said {
-        Verdict::Taken => DONE,
-        Verdict::Refused(why) => refusal_word(why),
+        Ok(()) => DONE,
+        Err(why) => refusal_word(why),
     }
 }
 
 // The word where a row for values is too short: the first refusal of the network, and else 10.
-fn short_word(links: &[u16], parents: &[u16], search: Search) -> u32
-    ensures { let g = net_of links.now parents.now search in
+fn short_word(net: Network) -> u32
+    ensures { let g = lent net.entry in
         result ≡ word_of (firstly (net_verdict g ∷ refused NoRoom 0 ∷ [])) }
 {
-    match sound::check_network(links, parents, search) {
-        Checked::Sound(_) => no_room_word(),
-        Checked::Unsound(why) => refusal_word(why),
+    match sound::check_network(net) {
+        Ok(_) => no_room_word(),
+        Err(why) => refusal_word(why),
     }
 }
 
-// Puts a value at the beginning of a row.
-fn put_one(row: &mut [u64], a: u64)
-    requires { 1 ≤ length row.old }
-    ensures { row.new ≡ answered (a ∷ []) row.old }
+// Puts values at the beginning of a row.
+#[tactic(auto, unfolding(crate::specs::Word::answered))]
+fn put(row: &mut [u64], values: &[u64])
+    requires { length values.now ≤ length row.old }
+    ensures { row.new ≡ answered values.now row.old }
 {
-    row[0] = a;
-}
-
-// Puts two values at the beginning of a row.
-fn put_two(row: &mut [u64], a: u64, b: u64)
-    requires { 2 ≤ length row.old }
-    ensures { row.new ≡ answered (a ∷ b ∷ []) row.old }
-{
-    row[0] = a;
-    row[1] = b;
-}
-
-// Puts three values at the beginning of a row.
-fn put_three(row: &mut [u64], a: u64, b: u64, c: u64)
-    requires { 3 ≤ length row.old }
-    ensures { row.new ≡ answered (a ∷ b ∷ c ∷ []) row.old }
-{
-    row[0] = a;
-    row[1] = b;
-    row[2] = c;
-}
-
-// Puts what a header says at the beginning of a row.
-fn put_header(row: &mut [u64], head: Header)
-    requires { 4 ≤ length row.old }
-    ensures { row.new ≡ answered (head.nodes ∷ head.links ∷ head.search.root ∷ head.search.depth ∷ []) row.old }
-{
-    let search = head.search;
-    row[0] = head.nodes as u64;
-    row[1] = head.links as u64;
-    row[2] = search.root as u64;
-    row[3] = search.depth as u64;
+    row[..values.len()].copy_from_slice(values);
 }
 
 // The version of the interface. The name ends with it, so that a caller made for another version does not link.
@@ -168,15 +122,21 @@ pub extern "C" fn doeragyeol_check(
         (result ≡ word_of (check_said g sizes.old))
         × (sizes.new ≡ sizes_row g sizes.old) }
 {
+    let search = Search { root, depth, rule };
+    let net = Network {
+        links,
+        parents,
+        search,
+    };
     if sizes.len() < SIZES {
-        return short_word(links, parents, Search { root, depth, rule });
+        return short_word(net);
     }
-    match sound::check_network(links, parents, Search { root, depth, rule }) {
-        Checked::Sound(told) => {
-            put_two(sizes, told.nodes as u64, told.links as u64);
+    match sound::check_network(net) {
+        Ok(told) => {
+            put(sizes, &[told.nodes as u64, told.links as u64]);
             DONE
         }
-        Checked::Unsound(why) => refusal_word(why),
+        Err(why) => refusal_word(why),
     }
 }
 
@@ -194,7 +154,13 @@ pub extern "C" fn doeragyeol_table(
         (result ≡ word_of (table_verdict g entries.old))
         × (entries.new ≡ table_row g entries.old) }
 {
-    word(table::table(links, parents, Search { root, depth, rule }, entries))
+    let search = Search { root, depth, rule };
+    let net = Network {
+        links,
+        parents,
+        search,
+    };
+    word(table::table(net, entries))
 }
 
 // The unprotected map, into `words`. `told` gets how many nodes are unprotected and the lowest of them.
@@ -215,15 +181,21 @@ pub extern "C" fn doeragyeol_map(
         × (words.new ≡ words_row g words' told')
         × (told.new ≡ open_row g words' told') }
 {
+    let search = Search { root, depth, rule };
+    let net = Network {
+        links,
+        parents,
+        search,
+    };
     if told.len() < TOLD {
-        return short_word(links, parents, Search { root, depth, rule });
+        return short_word(net);
     }
-    match map::unprotected_map(links, parents, Search { root, depth, rule }, words) {
-        MapAnswer::Is(counted) => {
-            put_two(told, counted.count as u64, counted.lowest as u64);
+    match map::unprotected_map(net, words) {
+        Ok(counted) => {
+            put(told, &[counted.count as u64, counted.lowest as u64]);
             DONE
         }
-        MapAnswer::Not(why) => refusal_word(why),
+        Err(why) => refusal_word(why),
     }
 }
 
@@ -277,14 +249,19 @@ pub extern "C" fn doeragyeol_write(
 {
     if size.len() < SIZE {
         let rule = Memory::LOWEST;
-        return short_word(links, parents, Search { root, depth, rule });
+        let search = Search { root, depth, rule };
+        return short_word(Network {
+            links,
+            parents,
+            search,
+        });
     }
     match archive::write(links, parents, Aim { root, depth }, file) {
-        WriteAnswer::Is(bytes) => {
-            put_one(size, bytes as u64);
+        Ok(bytes) => {
+            put(size, &[bytes as u64]);
             DONE
         }
-        WriteAnswer::Not(why) => refusal_word(why),
+        Err(why) => refusal_word(why),
     }
 }
 
@@ -312,25 +289,32 @@ pub extern "C" fn doeragyeol_read(
         return word(archive::check_read(file, &links[0..0], &parents[0..0], &entries[0..0]));
     }
     match archive::read(file, links, parents, entries) {
-        ReadAnswer::Is(head) => {
-            put_header(header, head);
+        Ok(head) => {
+            let Search { root, depth, .. } = head.search;
+            put(
+                header,
+                &[
+                    head.nodes as u64,
+                    head.links as u64,
+                    root as u64,
+                    depth as u64,
+                ],
+            );
             DONE
         }
-        ReadAnswer::Not(why) => refusal_word(why),
+        Err(why) => refusal_word(why),
     }
 }
 
 // The list for what is asked, into the row that applies, and the word of that.
 fn forward_word(
-    links: &[u16],
-    parents: &[u16],
-    search: Search,
+    net: Network,
     ask: Ask,
     ordinary: &mut [u16],
     detour: &mut [u16],
     way: &mut [u64],
 ) -> u32
-    ensures { let g = net_of links.now parents.now search in
+    ensures { let g = lent net.entry in
         let o = ordinary.old in
         let d = detour.old in
         let way' = way.old in
@@ -340,18 +324,18 @@ fn forward_word(
         × (way.new ≡ way_row g ask o d way') }
 {
     if way.len() < WAY {
-        return short_word(links, parents, search);
+        return short_word(net);
     }
-    match forward::fill(links, parents, search, ask, ordinary, detour) {
-        Applies::Ordinary(it) => {
-            put_three(way, ORDINARY, it.nodes as u64, it.length);
+    match forward::fill(net, ask, ordinary, detour) {
+        Ok(Applies::Ordinary(it)) => {
+            put(way, &[ORDINARY, it.nodes as u64, it.length]);
             DONE
         }
-        Applies::Detour(it) => {
-            put_three(way, DETOUR, it.nodes as u64, it.length);
+        Ok(Applies::Detour(it)) => {
+            put(way, &[DETOUR, it.nodes as u64, it.length]);
             DONE
         }
-        Applies::Neither(why) => refusal_word(why),
+        Err(why) => refusal_word(why),
     }
 }
 
@@ -380,20 +364,18 @@ pub extern "C" fn doeragyeol_forward_sum(
         × (detour.new ≡ detour_left g a o d way')
         × (way.new ≡ way_row g a o d way') }
 {
+    let search = Search { root, depth, rule };
+    let net = Network {
+        links,
+        parents,
+        search,
+    };
     let ask = Ask {
         start,
         failed,
         measure: Measure::Sum,
     };
-    forward_word(
-        links,
-        parents,
-        Search { root, depth, rule },
-        ask,
-        ordinary,
-        detour,
-        way,
-    )
+    forward_word(net, ask, ordinary, detour, way)
 }
 
 // The same by the swap link under incr.
@@ -420,20 +402,18 @@ pub extern "C" fn doeragyeol_forward_incr(
         × (detour.new ≡ detour_left g a o d way')
         × (way.new ≡ way_row g a o d way') }
 {
+    let search = Search { root, depth, rule };
+    let net = Network {
+        links,
+        parents,
+        search,
+    };
     let ask = Ask {
         start,
         failed,
         measure: Measure::Incr,
     };
-    forward_word(
-        links,
-        parents,
-        Search { root, depth, rule },
-        ask,
-        ordinary,
-        detour,
-        way,
-    )
+    forward_word(net, ask, ordinary, detour, way)
 }
 
 // The same by the swap link under max.
@@ -460,20 +440,18 @@ pub extern "C" fn doeragyeol_forward_max(
         × (detour.new ≡ detour_left g a o d way')
         × (way.new ≡ way_row g a o d way') }
 {
+    let search = Search { root, depth, rule };
+    let net = Network {
+        links,
+        parents,
+        search,
+    };
     let ask = Ask {
         start,
         failed,
         measure: Measure::Max,
     };
-    forward_word(
-        links,
-        parents,
-        Search { root, depth, rule },
-        ask,
-        ordinary,
-        detour,
-        way,
-    )
+    forward_word(net, ask, ordinary, detour, way)
 }
 
 // The length of the tree path from one node to another. `distance` gets it. The tree has no depth and no tie rule.
@@ -495,14 +473,19 @@ pub extern "C" fn doeragyeol_distance(
         depth: 0,
         rule: 0,
     };
-    match tree::tree_distance(links, parents, search, from as usize, to as usize) {
-        Answer::Is(length) => {
+    let net = Network {
+        links,
+        parents,
+        search,
+    };
+    match tree::tree_distance(net, from as usize, to as usize) {
+        Ok(length) => {
             if distance.len() < DISTANCE {
                 return no_room_word();
             }
-            put_one(distance, length);
+            put(distance, &[length]);
             DONE
         }
-        Answer::Not(why) => refusal_word(why),
+        Err(why) => refusal_word(why),
     }
 }

@@ -1,11 +1,10 @@
 -- The refusal numbers of SCOPE, in one table. Assumes nothing.
-use Rattle.std.specs.Prelude.{List, [], ◌∷◌, ℕ}
+use Rattle.std.specs.Prelude.{List, [], ◌∷◌, ℕ, Result, Ok, Err}
 use Rattle.edition.specs.declared.Why.{Why}
 use Rattle.edition.specs.declared.Why.TheVariants.{NodeCount, LinkCount, BadRoot, BadDepth, BadRule, BadEnds, BadMark, BadParent, NoRoute, NotShort}
 use Rattle.edition.specs.declared.Why.TheVariants.{NoRoom, LinkMissing, TreeLink, BreaksShort, BadStart, BadFailed, NoSwap}
 use Rattle.edition.specs.declared.Why.TheVariants.{BadLength, BadCheck, BadBlock, BadEntry}
-use Rattle.edition.specs.declared.Verdict.{Verdict}
-use Rattle.edition.specs.declared.Verdict.TheVariants.{Taken, Refused}
+use Rattle.edition.specs.declared.Refusal.{Refusal}
 
 -- The number that SCOPE gives each refusal.
 unfoldable pub number_of : Why → ℕ
@@ -31,16 +30,24 @@ number_of BadCheck = 21
 number_of BadBlock = 22
 number_of BadEntry = 24
 
+-- What a check says: nothing more where it takes what it checks, else a refusal.
+abbrev pub Verdict : Type 0
+Verdict = Result Unit Refusal
+
+-- The verdict that refuses nothing.
+abbrev pub taken : Verdict
+taken = Ok tt
+
 -- Refused, with a reason and a place.
 abbrev pub refused : Why → ℕ → Verdict
-refused why place = Refused (record { why = why; place = place })
+refused why place = Err (record { why = why; place = place })
 
 -- A verdict in numbers: 0 and 0 where it is taken, else the refusal's number and place.
 unfoldable pub said : Verdict → List ℕ
-said Taken = 0 ∷ 0 ∷ []
-said (Refused r) = number_of r.why ∷ r.place ∷ []
+said (Ok _) = 0 ∷ 0 ∷ []
+said (Err r) = number_of r.why ∷ r.place ∷ []
 
 -- The first where the verdict is taken, the second where it refuses.
 abbrev pub if_taken : {A : Type 0} → Verdict → A → A → A
-if_taken Taken x y = x
-if_taken (Refused r) x y = y
+if_taken (Ok _) x y = x
+if_taken (Err r) x y = y

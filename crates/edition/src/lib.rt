@@ -8,7 +8,7 @@ ghost use Rattle.edition.specs.Refusals.{number_of};
 ghost use Rattle.edition.specs.Entries.{no_swap, blank, swap_by};
 
 // Why something is refused: a case for each number of SCOPE's list.
-#[derive(Clone, Copy)]
+#[derive(Clone, Copy, PartialEq, Eq)]
 pub enum Why {
     NodeCount,
     LinkCount,
@@ -34,24 +34,10 @@ pub enum Why {
 }
 
 // A refusal: why, and the place that SCOPE names for it.
-#[derive(Clone, Copy)]
+#[derive(Clone, Copy, PartialEq, Eq)]
 pub struct Refusal {
     pub why: Why,
     pub place: usize,
-}
-
-// What a check says.
-#[derive(Clone, Copy)]
-pub enum Verdict {
-    Taken,
-    Refused(Refusal),
-}
-
-// What a search by number finds.
-#[derive(Clone, Copy)]
-pub enum Found {
-    Nothing,
-    At(usize),
 }
 
 // The most nodes and links, and the deepest bounded search.
@@ -111,7 +97,7 @@ pub struct Change {
 }
 
 // What is least: the sum of the new distances, the largest increase, or the largest new distance.
-#[derive(Clone, Copy)]
+#[derive(Clone, Copy, PartialEq, Eq)]
 pub enum Measure {
     Sum,
     Incr,
@@ -119,7 +105,7 @@ pub enum Measure {
 }
 
 // A swap link, its cost under one measure, and the mark of its lower end: 0 the link's first end, 1 its second.
-#[derive(Clone, Copy)]
+#[derive(Clone, Copy, PartialEq, Eq)]
 pub struct Swap {
     pub link: u64,
     pub cost: u64,
@@ -127,7 +113,7 @@ pub struct Swap {
 }
 
 // An entry of the table: the state of a node's tree link, and its swap link under each measure.
-#[derive(Clone, Copy)]
+#[derive(Clone, Copy, PartialEq, Eq)]
 pub struct Entry {
     pub state: u64,
     pub sum: Swap,

@@ -3,14 +3,14 @@ use mathlib.Core.Path.{◌≡◌, sym, ap, ◌∙◌}
 use mathlib.Core.List.{List, []}
 use Prim.Native.Nat.{ℕ, suc, ◌+◌, ◌*◌, ◌<◌, ◌≤◌}
 use native.Mathlib.Omega.{arith}
-use lib.ListN.{get_or, drop, length, drop_of_length-le}
+use lib.ListN.{get_or}
 use borrow.Author.Tests.{lt-ltb, le-ltb}
 use Rattle.edition.specs.declared.Entry.{Entry}
 use Rattle.edition.specs.Limits.{entry_width}
-use Rattle.rows.specs.Records.{with_record, past_records}
+use Rattle.rows.specs.Records.{with_record}
 use Rattle.rows.proofs.Put as put
 use lib.Seq.{sets}
-use Rattle.entries.specs.Row.{entry_row, entries_in, standing, entry_from, entry_at, put_entry, past_entries}
+use Rattle.entries.specs.Row.{entry_row, entries_in, standing, entry_from, entry_at, put_entry}
 
 -- the last place of a record, from its first
 pub add-nine : (n : ℕ) → n + 9 ≡ suc (suc (suc (suc (suc (suc (suc (suc (suc n))))))))
@@ -62,9 +62,3 @@ module _ (row : List ℕ) (x : ℕ) where
   pub put_nothing : (e : Entry) → entries_in row ≤ x → row ≡ put_entry row x e
   unfolding put_entry with_record
   put_nothing e h = rw (le-ltb x (entries_in row) h)
-
-pub past_end : (row : List ℕ) (n : ℕ) → entries_in row < n → drop (length row) row ≡ past_entries n row
-unfolding past_entries past_records
-past_end row n h =
-    drop_of_length-le row {i = length row} (omega arith)
-    ∙ sym (drop_of_length-le row {i = n * entry_width} (omega arith))

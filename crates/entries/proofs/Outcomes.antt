@@ -1,7 +1,6 @@
 -- Two outcomes that a promise allows are equal: one theorem a public function, in the words of its contract. Assumes nothing.
-use Prim.Native.Nat.{ℕ}
+use Prim.Native.Nat.{ℕ, ◌*◌, min}
 use mathlib.Core.List.{List}
-use Prim.Native.Nat.{◌*◌, min}
 use Rattle.edition.specs.Limits.{node_limit, entry_width}
 use Rattle.edition.specs.declared.Entry.{Entry}
 use Rattle.entries.specs.Row.{entries_in, entry_at, put_entry, past_entries}

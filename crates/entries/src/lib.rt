@@ -91,6 +91,7 @@ pub fn put_there(row: &mut [u64], x: usize, e: Entry)
 }
 
 // Writes the entry of node x; nothing where the row holds none.
+#[tactic(auto, using(crate::proofs::Numbers::put_nothing))]
 pub fn put_entry(row: &mut [u64], x: usize, e: Entry)
     ensures { row.new ≡ put_entry row.old x e }
 {
@@ -116,8 +117,5 @@ pub fn past_entries(row: &[u64], n: usize) -> &[u64]
 pub fn numbers_of(n: usize) -> usize
     ensures { result ≡ min n node_limit * entry_width }
 {
-    if Memory::NODES < n {
-        return Memory::ENTRY_ROW;
-    }
-    n * Memory::ENTRY
+    n.min(Memory::NODES) * Memory::ENTRY
 }

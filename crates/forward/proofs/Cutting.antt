@@ -1,21 +1,28 @@
 -- A start that is cut off: refused where the failed node has no swap link, else listed around by it. Assumes nothing.
-use mathlib.Core.Path.{◌≡◌, sym, ap, ◌∙◌}
+use Rattle.std.specs.Prelude.{Ok, Err}
+use mathlib.Core.Path.{◌≡◌, refl, sym, ap, ◌∙◌}
+use mathlib.Core.Bool.{Bool, true, false, not}
 use mathlib.Core.List.{List}
 use Prim.Native.Nat.{ℕ, ◌<◌}
+use lib.Dec.{eqb}
 use lib.ListN.{length}
-use borrow.Author.Tests.{eq-eqb, ne_eqb}
+use borrow.Author.Tests.{eq-eqb, eqb-true}
 use Rattle.edition.specs.declared.Entry.{Entry}
+use Rattle.edition.specs.declared.Refusal.{Refusal}
 use Rattle.edition.specs.declared.Search.{Search}
 use Rattle.edition.specs.declared.Swap.{Swap}
 use Rattle.edition.specs.declared.Why.TheVariants.{NoSwap}
 use Rattle.edition.specs.Entries.{swap_state, swap_by}
+use Rattle.edition.specs.Refusals.{Verdict, taken}
+use Rattle.rows.specs.First.{refuse_if}
+use Rattle.rows.proofs.Refusing.{if_taken_lem}
 use Rattle.network.specs.Network.{Net, net_of, link_in}
 use Rattle.tree.specs.Tree.{tree_of}
 use Rattle.swap.specs.Entry.{entry}
 use Rattle.forward.specs.declared.Ask.{Ask}
 use Rattle.forward.specs.declared.Over.{Over}
 use Rattle.forward.specs.declared.Way.{Way}
-use Rattle.forward.specs.declared.Applies.TheVariants.{Detour, Neither}
+use Rattle.forward.specs.declared.Applies.TheVariants.{Detour}
 use Rattle.forward.specs.Forward.{lower_end, upper_end, swap_link, around}
 use Rattle.forward.specs.Answers.{row_of}
 use Rattle.forward.specs.Work.{Node, over_by, Around, around_way, Cut, cut_applies, cut_row}
@@ -30,24 +37,41 @@ module _ (links parents : List ℕ) (search : Search) {survey : List ℕ} {a : A
   failed_there = h.failed_low
 
   start : Node g a.start
-  start = record { taken = h.surveyed.taken; low = h.start-low }
+  start = record { is_taken = h.surveyed.is_taken; low = h.start-low }
 
   failed : Node g a.failed
-  failed = record { taken = h.surveyed.taken; low = h.failed_low }
+  failed = record { is_taken = h.surveyed.is_taken; low = h.failed_low }
 
   far : a.failed ≡ (tree_of g).root → ⊥
   unfolding tree_of
   far = h.below
 
   module _ {e : Entry} (q : e ≡ entry g a.failed) where
-    -- no swap link
-    pub cut-none :
-        (e.state ≡ swap_state → ⊥)
-        → (row : List ℕ)
-        → (Neither (record { why = NoSwap; place = a.failed }) ≡ cut_applies g a) × (row ≡ cut_row g a row)
-    unfolding cut_applies cut_row
-    cut-none n row =
-        let none = ne_eqb (entry g a.failed).state swap_state (λ s. n (ap (λ (k : Entry). k.state) q ∙ s)) in (rw none, rw none)
+    module _ {v : Verdict} (z : v ≡ refuse_if (not (eqb e.state swap_state)) NoSwap a.failed) where
+      asked : v ≡ refuse_if (not (eqb (entry g a.failed).state swap_state)) NoSwap a.failed
+      asked = z ∙ ap (λ (i : Entry). refuse_if (not (eqb i.state swap_state)) NoSwap a.failed) q
+
+      -- no swap link
+      pub cut-none : {r : Refusal} → v ≡ Err r → (row : List ℕ) → (Err r ≡ cut_applies g a) × (row ≡ cut_row g a row)
+      unfolding cut_applies cut_row refuse_if
+      cut-none {r} i row = go (eqb (entry g a.failed).state swap_state) refl (sym asked ∙ i)
+        where
+          go :
+              (b : Bool)
+              → eqb (entry g a.failed).state swap_state ≡ b → refuse_if (not (eqb (entry g a.failed).state swap_state)) NoSwap a.failed ≡ Err r
+              → (Err r ≡ cut_applies g a) × (row ≡ cut_row g a row)
+          go true h t = absurd (let n = rw h at t in cc)
+          go false h t =
+              let n = rw h at t in
+              let same : r ≡ record { why = NoSwap; place = a.failed } = cc in (rw h (ap Err same), rw h)
+
+      -- one
+      pub cut-some : v ≡ taken → e.state ≡ swap_state
+      cut-some t = go (eqb e.state swap_state) refl
+        where
+          go : (b : Bool) → eqb e.state swap_state ≡ b → e.state ≡ swap_state
+          go true h = eqb-true e.state swap_state h
+          go false h = let n = if_taken_lem (not (eqb e.state swap_state)) NoSwap a.failed (sym z ∙ t) in absurd (let m = rw h at n in cc)
 
     module _ (s : e.state ≡ swap_state) {k : Swap} (p : k ≡ swap_by e a.measure) {o : Over} (r : o ≡ over_by (link_in links k.link) k.lower) where
       has : (entry g a.failed).state ≡ swap_state
@@ -67,7 +91,7 @@ module _ (links parents : List ℕ) (search : Search) {survey : List ℕ} {a : A
           {w : Way} (row : List ℕ) {row' : List ℕ}
           → w ≡ around_way (tree_of g) a.failed o.from o.to o.length a.start
           → row' ≡ row_of (around (tree_of g) a.failed o.from o.to a.start) row
-          → (Detour w ≡ cut_applies g a) × (row' ≡ cut_row g a row)
+          → (Ok (Detour w) ≡ cut_applies g a) × (row' ≡ cut_row g a row)
       unfolding cut_applies cut_row
       cut-listed {w} row {row'} i j =
           let x = a.failed in

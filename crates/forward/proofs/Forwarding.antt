@@ -1,5 +1,6 @@
 -- What holds of a list that is handed back: it is a walk from the start to the root over links in service, without the failed tree link,
 -- that fits its row; the failed node stands in a detour once, and the swap link is used once; and how long it is. Assumes nothing.
+use Rattle.std.specs.Prelude.{Err, Ok}
 use mathlib.Core.Path.{◌≡◌, refl, sym, ap, ap₂, ◌∙◌}
 use mathlib.Core.Bool.{Bool, true, false, not, ◌&&◌, ◌||◌}
 use mathlib.Core.List.{List, [], ◌∷◌, ◌++◌, reverse}
@@ -10,11 +11,9 @@ use lib.ListN.{length, drop, length-append, length-drop}
 use lib.Seq.{take-append_seam, drop-append_seam}
 use borrow.Author.Tests.{eqb-true, eq-eqb, ne_eqb, not-false}
 use Rattle.edition.specs.declared.Refusal.{Refusal}
-use Rattle.edition.specs.declared.Verdict.{Verdict}
-use Rattle.edition.specs.declared.Verdict.TheVariants.{Taken, Refused}
+use Rattle.edition.specs.Refusals.{Verdict, taken, number_of}
 use Rattle.edition.specs.declared.Why.TheVariants.{NoSwap}
 use Rattle.edition.specs.Entries.{swap_state, none_state, bridge_state, swap_by}
-use Rattle.edition.specs.Refusals.{number_of}
 use Rattle.edition.proofs.Numbered.{numbered}
 use Rattle.edition.specs.Limits.{route_room}
 use Rattle.rows.specs.Lists.{has, up_to}
@@ -63,8 +62,8 @@ stranded-is g a off = ap (λ (b : Bool). cut_off g a && b) (rw (entry-state g a.
 -- a start that is not cut off is taken where 1 to 16 refuse nothing, whatever the state of the failed node
 pub free-taken :
     (g : Net) (a : Ask) (ordinary detour : List ℕ)
-    → net_verdict g ≡ Taken → ask_verdict g.nodes g.search.root a (length ordinary) (length detour) ≡ Taken → cut_off g a ≡ false
-    → forward_verdict g a ordinary detour ≡ Taken
+    → net_verdict g ≡ taken → ask_verdict g.nodes g.search.root a (length ordinary) (length detour) ≡ taken → cut_off g a ≡ false
+    → forward_verdict g a ordinary detour ≡ taken
 unfolding forward_verdict stranded
 free-taken g a ordinary detour t f free =
     both_taken _ _ t (both_taken _ _ f (both_taken _ _ (if_passes _ NoSwap a.failed (rw free)) none_left))
@@ -72,36 +71,36 @@ free-taken g a ordinary detour t f free =
 -- on a refusal both rows stay, the number and the place are its own, and an empty part is handed back
 pub refused_rows :
     (g : Net) (a : Ask) (ordinary detour : List ℕ) (r : Refusal)
-    → forward_verdict g a ordinary detour ≡ Refused r → (ordinary_row g a ordinary detour ≡ ordinary) × (detour_row g a ordinary detour ≡ detour)
+    → forward_verdict g a ordinary detour ≡ Err r → (ordinary_row g a ordinary detour ≡ ordinary) × (detour_row g a ordinary detour ≡ detour)
 unfolding ordinary_row detour_row
 refused_rows g a ordinary detour r q = (rw q, rw q)
 
 pub refused-said :
     (g : Net) (a : Ask) (ordinary detour : List ℕ) (r : Refusal)
-    → forward_verdict g a ordinary detour ≡ Refused r
+    → forward_verdict g a ordinary detour ≡ Err r
     → (number_said (applies g a ordinary detour) ≡ number_of r.why) × (place_said (applies g a ordinary detour) ≡ r.place)
 unfolding applies
 refused-said g a ordinary detour r q = (rw q, rw q)
 
 -- the number is 0 only where there is no refusal
-pub zero-taken : (g : Net) (a : Ask) (ordinary detour : List ℕ) → number_said (applies g a ordinary detour) ≡ 0 → forward_verdict g a ordinary detour ≡ Taken
+pub zero-taken : (g : Net) (a : Ask) (ordinary detour : List ℕ) → number_said (applies g a ordinary detour) ≡ 0 → forward_verdict g a ordinary detour ≡ taken
 zero-taken g a ordinary detour z = go (forward_verdict g a ordinary detour) refl
   where
-    go : (v : Verdict) → forward_verdict g a ordinary detour ≡ v → forward_verdict g a ordinary detour ≡ Taken
-    go Taken q = q
-    go (Refused r) q = absurd (omega (arith, numbered r.why, (refused-said g a ordinary detour r q).0, z))
+    go : (v : Verdict) → forward_verdict g a ordinary detour ≡ v → forward_verdict g a ordinary detour ≡ taken
+    go (Ok _) q = q
+    go (Err r) q = absurd (omega (arith, numbered r.why, (refused-said g a ordinary detour r q).0, z))
 
 pub handed-none :
     (g : Net) (a : Ask) (ordinary detour : List ℕ) (r : Refusal)
-    → forward_verdict g a ordinary detour ≡ Refused r → handed g a ordinary detour ≡ []
+    → forward_verdict g a ordinary detour ≡ Err r → handed g a ordinary detour ≡ []
 unfolding handed used_part applies
 handed-none g a ordinary detour r q = rw q
 
-module _ (g : Net) (a : Ask) (ordinary detour' : List ℕ) (ok : forward_verdict g a ordinary detour' ≡ Taken) where
+module _ (g : Net) (a : Ask) (ordinary detour' : List ℕ) (ok : forward_verdict g a ordinary detour' ≡ taken) where
   abbrev t : Tree
   t = tree_of g
 
-  sound_net : net_verdict g ≡ Taken
+  sound_net : net_verdict g ≡ taken
   unfolding forward_verdict
   sound_net = head_taken _ _ ok
 
@@ -114,10 +113,10 @@ module _ (g : Net) (a : Ask) (ordinary detour' : List ℕ) (ok : forward_verdict
   unstranded = if_taken_lem _ NoSwap a.failed (head_taken _ _ (rest-taken _ _ (rest-taken _ _ ok)))
 
   start : Node g a.start
-  start = record { taken = sound_net; low = fits.start-low }
+  start = record { is_taken = sound_net; low = fits.start-low }
 
   failed : Node g a.failed
-  failed = record { taken = sound_net; low = fits.failed_low }
+  failed = record { is_taken = sound_net; low = fits.failed_low }
 
   away : a.failed ≡ t.root → ⊥
   unfolding tree_of
@@ -313,11 +312,11 @@ module _ (g : Net) (a : Ask) (ordinary detour' : List ℕ) (ok : forward_verdict
           (λ i k. rw (steps-parents g (to_top g (it c).rest) e k))))
 
   -- the answer: which row applies, how many nodes the part has, and its length; no number and no place
-  pub said-cut : cut_off g a ≡ true → applies g a ordinary detour' ≡ Detour (way g a)
+  pub said-cut : cut_off g a ≡ true → applies g a ordinary detour' ≡ Ok (Detour (way g a))
   unfolding applies
   said-cut c = rw (ok, c)
 
-  pub said-free : cut_off g a ≡ false → applies g a ordinary detour' ≡ Ordinary (way g a)
+  pub said-free : cut_off g a ≡ false → applies g a ordinary detour' ≡ Ok (Ordinary (way g a))
   unfolding applies
   said-free c = rw (ok, c)
 

@@ -11,7 +11,6 @@ pub mod Walking
 pub mod Avoiding
 pub mod Forwarding
 pub mod Cutting
-pub mod Handing
 pub mod Asking
 pub mod Numbers
 pub mod Outcomes

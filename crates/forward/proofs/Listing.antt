@@ -137,9 +137,6 @@ module _ (links parents : List ℕ) (search : Search) where
 
     module _ (row : List ℕ) (l : route_room ≤ length row) where
       module _ {row₁ : List ℕ} (one : row₁ ≡ sets row 0 (up_to search.root (route (tree_of net) u) ++ (search.root ∷ []))) where
-        pub route-long : length row₁ ≡ length row
-        route-long = ap length one ∙ length-sets row 0 (up_to search.root (route (tree_of net) u) ++ (search.root ∷ []))
-
         pub route_row_lem : row₁ ≡ row_of (route (tree_of net) u) row
         unfolding tree_of net_of
         route_row_lem = one ∙ listed-route net n row l
@@ -194,9 +191,6 @@ module _ (links parents : List ℕ) (search : Search) where
           three-room = omega (arith, two-long, last_room, l)
 
           module _ {row₃ : List ℕ} (three : row₃ ≡ sets row₂ (up + 1 + down) (up_to search.root (route (tree_of net) z') ++ (search.root ∷ []))) where
-            pub three-long : length row₃ ≡ length row
-            three-long = ap length three ∙ length-sets row₂ (up + 1 + down) (up_to search.root (route (tree_of net) z') ++ (search.root ∷ [])) ∙ two-long
-
             pub around_row : row₃ ≡ row_of (around (tree_of net) x z z' u) row
             unfolding tree_of net_of
             around_row = rw (three, two, one, p, q) (listed-around net w row l)

@@ -24,7 +24,7 @@ module _ (g : Net) where
 
   module _ {u : ℕ} (n : Node g u) where
     pub fine : Sound g
-    fine = sound g n.taken
+    fine = sound g n.is_taken
 
     pub homed : Home (tree_of g) u
     homed = home g fine u n.low
@@ -38,7 +38,7 @@ module _ (g : Net) where
     -- the root is one
     pub top : Node g (tree_of g).root
     unfolding tree_of
-    top = record { taken = n.taken; low = root_in g fine }
+    top = record { is_taken = n.is_taken; low = root_in g fine }
 
     pub to_top : Upward g (tree_of g).root u
     to_top = record { node = n; on = under-root (tree_of g) u homed }
@@ -47,7 +47,7 @@ module _ (g : Net) where
     pub above : (x : ℕ) → under (tree_of g) x u ≡ true → Node g x
     above x p =
         record {
-          taken = n.taken;
+          is_taken = n.is_taken;
           low = omega (arith, size_is, under-below (tree_of g) (up_in g fine) u x homed in_tree p);
         }
 

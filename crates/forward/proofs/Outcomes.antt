@@ -1,6 +1,6 @@
 -- Two outcomes that a promise allows are equal: one theorem a public function, in the words of its contract. Assumes nothing.
-use Prim.Native.Nat.{ℕ}
-use mathlib.Core.List.{List}
+use Rattle.std.specs.Prelude.{ℕ, List, Result}
+use Rattle.edition.specs.declared.Refusal.{Refusal}
 use Rattle.edition.specs.declared.Search.{Search}
 use Rattle.forward.specs.Answers.{ask_verdict, applies, ordinary_row, detour_row, row_for, used_part, number_said, place_said, handed}
 use Rattle.forward.specs.declared.Applies.{Applies}
@@ -25,17 +25,17 @@ one_fill links parents search ask ordinary detour = (one _, one _, one _)
 
 -- `forward::part`
 pub one_part :
-    (ordinary detour : List ℕ) (it : Applies) (ordinary-start detour-start : ℕ) →
+    (ordinary detour : List ℕ) (it : Result Applies Refusal) (ordinary-start detour-start : ℕ) →
     One (used_part it ordinary detour)
     × One (row_for it ordinary-start detour-start)
 one_part ordinary detour it ordinary-start detour-start = (one _, one _)
 
 -- `forward::number_of`
-pub one_number_of : (it : Applies) → One (number_said it)
+pub one_number_of : (it : Result Applies Refusal) → One (number_said it)
 one_number_of it = one _
 
 -- `forward::place_of`
-pub one_place_of : (it : Applies) → One (place_said it)
+pub one_place_of : (it : Result Applies Refusal) → One (place_said it)
 one_place_of it = one _
 
 -- `forward::forward`

@@ -6,11 +6,11 @@ use Prim.Native.Nat.{ℕ, ◌*◌, ◌<◌, ◌≤◌}
 use native.Mathlib.Omega.{arith}
 use lib.Dec.{eqb}
 use lib.ListN.{get_or}
-use borrow.Author.Tests.{eqb-true, eqb-false, eq-eqb, ne_eqb}
+use borrow.Author.Tests.{eqb-true, eqb-false, eq-eqb}
 use Rattle.edition.specs.declared.Search.{Search}
 use Rattle.edition.specs.Limits.{node_limit, longest}
 use Rattle.rows.specs.Lists.{has, up_to}
-use Rattle.rows.proofs.Tests.{clash, either, or_right, or_none}
+use Rattle.rows.proofs.Tests.{clash, either, or_right}
 use Rattle.network.specs.Network.{net_of}
 use Rattle.tree.specs.declared.Climb.{Climb}
 use Rattle.tree.specs.Tree.{Tree, route, under}
@@ -28,15 +28,6 @@ ends root x = x ∷ root ∷ []
 pub top_ends : (root x : ℕ) → has root (ends root x) ≡ true
 unfolding has
 top_ends root x = or_right (eqb x root) (eqb root root || false) (rw (eq-eqb root root refl))
-
--- the test, as the code makes it
-pub ended : (root x u : ℕ) → x ≡ u → true ≡ has u (ends root x)
-unfolding has
-ended root x u q = rw (eq-eqb x u q)
-
-pub ended_top : (root x u : ℕ) (b : Bool) → (x ≡ u → ⊥) → b ≡ eqb root u → b ≡ has u (ends root x)
-unfolding has
-ended_top root x u b n q = rw (ne_eqb x u n, or_none (eqb root u)) q
 
 module _ (links parents : List ℕ) (search : Search) (held : (i : ℕ) → get_or links i 0 ≤ longest) (x u : ℕ)
     (n : Node (net_of links parents search) u) where

@@ -61,7 +61,7 @@ module _ (g : Net) (a : Ask) (u : Node g a.start) (x : Node g a.failed) where
         ∙ over_ends (tree_of g) a.failed (g.link (swap_by (entry g a.failed) a.measure).link)
 
     node_of : {v : ℕ} → v < g.nodes → Node g v
-    node_of l = record { taken = u.taken; low = l }
+    node_of l = record { is_taken = u.is_taken; low = l }
 
     pub cut_around : Around g a.failed a.start (lower_end g a) (upper_end g a)
     unfolding cut_off lower_end upper_end

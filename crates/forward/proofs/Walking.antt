@@ -82,7 +82,7 @@ module _ (g : Net) where
 
   -- the parent of a node is a node
   pub parent : {u : ℕ} → Node g u → Node g (t.up u)
-  parent {u} n = record { taken = n.taken; low = omega (arith, size_is g, up_in g (fine g n) u (in_tree g n)) }
+  parent {u} n = record { is_taken = n.is_taken; low = omega (arith, size_is g, up_in g (fine g n) u (in_tree g n)) }
 
   -- up from u to c, and on
   walk_up :

@@ -1,11 +1,13 @@
 -- The loops that write nodes into a row: up from u to x, and, from the last place back, down from x to z. Assumes nothing.
-use mathlib.Core.Path.{◌≡◌, sym, ap, ◌∙◌}
-use mathlib.Core.Bool.{true}
+use mathlib.Core.Path.{◌≡◌, refl, sym, ap, ◌∙◌}
+use mathlib.Core.Bool.{Bool, true, false}
 use mathlib.Core.List.{List, [], ◌∷◌, ◌++◌, reverse, reverse-append}
 use Prim.Native.Nat.{ℕ, suc, ◌+◌, ◌-◌, ◌<◌, ◌≤◌}
 use native.Mathlib.Omega.{arith}
+use lib.Dec.{eqb}
 use lib.ListN.{length, set, length-set, length-append}
 use lib.Seq.{sets, length-sets}
+use borrow.Author.Tests.{eqb-true, eqb-false}
 use Rattle.edition.specs.Limits.{node_limit, route_room}
 use Rattle.rows.specs.Lists.{up_to}
 use Rattle.network.specs.Network.{Net}
@@ -158,18 +160,26 @@ module _ (g : Net) where
     pub falling_length : length row' ≡ length row
     falling_length = ap length f.row_is ∙ length-sets row (at + left) (reverse (up_to c (route (tree_of g) z)))
 
-    pub falling_low : at + left ≤ route_room + node_limit
-    falling_low = omega (arith, f.low, f.left_is, hops-low x (here f.passing).node f.passing.over)
-
     pub falling_node : c < node_limit
     falling_node = fits (here f.passing).node
 
-    module _ (off : c ≡ x → ⊥) where
-      pub falling_some : 1 ≤ left
-      falling_some = omega (arith, f.left_is, hops_next g (here f.passing) off)
+    -- it is at x exactly where nothing is left
+    at_top : c ≡ x → left ≡ 0
+    at_top q = f.left_is ∙ ap (hops (tree_of g) x) q ∙ hops-none (above g (here f.passing).node x f.passing.over)
+
+    none_left : left ≡ 0 → c ≡ x
+    none_left n = go (eqb c x) refl
+      where
+        go : (b : Bool) → eqb c x ≡ b → c ≡ x
+        go true p = eqb-true c x p
+        go false p = absurd (omega (arith, n, f.left_is, hops_next g (here f.passing) (eqb-false c x p)))
+
+    module _ (some : 0 < left) where
+      off : c ≡ x → ⊥
+      off q = omega (arith, some, at_top q)
 
       pub falling_room : at + (left - 1) < length row'
-      falling_room = omega (arith, f.room, falling_length, falling_some)
+      falling_room = omega (arith, f.room, falling_length, some)
 
       module _ {c' : ℕ} (q : c' ≡ (tree_of g).up c) where
         behind : reverse (up_to c' (route (tree_of g) z)) ≡ c ∷ reverse (up_to c (route (tree_of g) z))
@@ -184,17 +194,13 @@ module _ (g : Net) where
               left_is = omega (arith, f.left_is, left_more f.passing off q);
               row_is =
                   ap (λ (r : List ℕ). set r (at + (left - 1)) c)
-                  (f.row_is ∙ ap (λ (i : ℕ). sets row i (reverse (up_to c (route (tree_of g) z)))) (omega (arith, falling_some)))
+                  (f.row_is ∙ ap (λ (i : ℕ). sets row i (reverse (up_to c (route (tree_of g) z)))) (omega (arith, some)))
                   ∙ sets_front row (at + (left - 1)) (reverse (up_to c (route (tree_of g) z))) c
                   ∙ ap (sets row (at + (left - 1))) (sym behind);
             }
 
-        pub falling_less : length (route (tree_of g) c') < length (route (tree_of g) c)
-        falling_less = passing_less f.passing off q
-
-    pub falling_end : c ≡ x → row' ≡ sets row at (reverse (up_to x (route (tree_of g) z)))
-    falling_end q =
-        let none : left ≡ 0 = f.left_is ∙ ap (hops (tree_of g) x) q ∙ hops-none (above g (here f.passing).node x f.passing.over) in
+    pub falling_end : left ≡ 0 → row' ≡ sets row at (reverse (up_to x (route (tree_of g) z)))
+    falling_end none =
         f.row_is
         ∙ ap (λ (i : ℕ). sets row i (reverse (up_to c (route (tree_of g) z)))) (omega (arith, none))
-        ∙ ap (λ (v : ℕ). sets row at (reverse (up_to v (route (tree_of g) z)))) q
+        ∙ ap (λ (v : ℕ). sets row at (reverse (up_to v (route (tree_of g) z)))) (none_left none)

@@ -1,6 +1,7 @@
 -- What private functions of this crate promise each other. No public promise cites this page. Assumes nothing.
-use Rattle.std.specs.Prelude.{◌≡◌, true, false, cond, List, ℕ, ◌+◌, ◌*◌, ◌<◌, ◌≤◌, eqb, length}
-use Rattle.edition.specs.declared.Verdict.TheVariants.{Taken}
+use Rattle.std.specs.Prelude.{Result, Ok, Err, ◌≡◌, true, false, cond, List, ℕ, ◌+◌, ◌*◌, ◌<◌, ◌≤◌, eqb, length}
+use Rattle.edition.specs.declared.Refusal.{Refusal}
+use Rattle.edition.specs.Refusals.{taken}
 use Rattle.edition.specs.declared.Why.TheVariants.{NoSwap}
 use Rattle.edition.specs.Entries.{first_end, swap_state}
 use Rattle.edition.specs.Limits.{node_limit, longest}
@@ -16,13 +17,13 @@ use Rattle.forward.specs.declared.Ask.{Ask}
 use Rattle.forward.specs.declared.Way.{Way}
 use Rattle.forward.specs.declared.Over.{Over}
 use Rattle.forward.specs.declared.Applies.{Applies}
-use Rattle.forward.specs.declared.Applies.TheVariants.{Detour, Neither}
+use Rattle.forward.specs.declared.Applies.TheVariants.{Detour}
 use Rattle.forward.specs.Forward.{cut_off, around, listed}
 use Rattle.forward.specs.Answers.{way, row_of}
 
 -- a node of a network that is taken
 pub record Node (g : Net) (u : ℕ) : Type 0 where
-  pub taken : net_verdict g ≡ Taken
+  pub is_taken : net_verdict g ≡ taken
   pub low : u < g.nodes
 
 -- a node, and one on its route
@@ -92,9 +93,9 @@ pub record Cut (g : Net) (survey : List ℕ) (a : Ask) : Type 0 where
   pub cut : cut_off g a ≡ true
 
 -- 17, or the detour
-unfoldable pub cut_applies : Net → Ask → Applies
+unfoldable pub cut_applies : Net → Ask → Result Applies Refusal
 cut_applies g a =
-    cond (eqb (entry g a.failed).state swap_state) (Detour (way g a)) (Neither (record { why = NoSwap; place = a.failed }))
+    cond (eqb (entry g a.failed).state swap_state) (Ok (Detour (way g a))) (Err (record { why = NoSwap; place = a.failed }))
 
 -- and the row for it
 unfoldable pub cut_row : Net → Ask → List ℕ → List ℕ

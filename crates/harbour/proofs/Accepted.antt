@@ -7,7 +7,7 @@ use native.Mathlib.Omega.{arith}
 use lib.ListN.{length, get_or}
 use Rattle.edition.specs.declared.Search.{Search}
 use Rattle.edition.specs.declared.Aim.{Aim}
-use Rattle.edition.specs.declared.Verdict.TheVariants.{Taken}
+use Rattle.edition.specs.Refusals.{taken}
 use Rattle.edition.specs.Limits.{memory_limits, longest}
 use Rattle.edition.specs.Stored.{edition_limits, by_number}
 use Rattle.edition.proofs.Within.{Within}
@@ -26,8 +26,8 @@ memory_within = record { nodes = omega arith; links = omega arith; depth = omega
 
 sizes_fit :
     (links parents : List ℕ) (search : Search)
-    → net_verdict (net_of links parents search) ≡ Taken
-    → size_verdict edition_limits (length parents) (links_in links) search ≡ Taken
+    → net_verdict (net_of links parents search) ≡ taken
+    → size_verdict edition_limits (length parents) (links_in links) search ≡ taken
 unfolding net_verdict net_of
 sizes_fit links parents search ok =
     sizes_grow memory_limits edition_limits memory_within (length parents) (links_in links) search (head_taken _ _ ok)
@@ -35,8 +35,8 @@ sizes_fit links parents search ok =
 -- the file of every sound network, of rows whose numbers have 16 bits, is taken where the lent rows have room
 pub sound_accepted :
     (links parents : List ℕ) (aim : Aim)
-    → net_verdict (net_of links parents (by_number aim)) ≡ Taken → ((i : ℕ) → get_or links i 0 ≤ longest) → (rows : Rows)
+    → net_verdict (net_of links parents (by_number aim)) ≡ taken → ((i : ℕ) → get_or links i 0 ≤ longest) → (rows : Rows)
     → too_short (length parents) (links_in links) rows ≡ false
-    → read_verdict (file_of (net_of links parents (by_number aim))) rows ≡ Taken
+    → read_verdict (file_of (net_of links parents (by_number aim))) rows ≡ taken
 sound_accepted links parents aim ok held rows room =
     written_accepted links parents aim ok (sizes_fit links parents (by_number aim) ok) held rows room

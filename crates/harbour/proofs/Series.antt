@@ -9,7 +9,6 @@ use Rattle.edition.specs.declared.Search.{Search}
 use Rattle.edition.specs.Entries.{swap_by}
 use Rattle.entries.specs.Row.{entry_at}
 use Rattle.network.specs.Network.{net_of}
-use Rattle.table.specs.Table.{table}
 use Rattle.change.specs.Change.{Lent, changed_by}
 use Rattle.change.proofs.Series.{Right, series_right}
 use Rattle.forward.specs.declared.Ask.{Ask}

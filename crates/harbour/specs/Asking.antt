@@ -1,9 +1,8 @@
 -- What is asked of a network in lent rows, what the definitions answer, and whether a table of such cases holds. Assumes nothing.
-use Rattle.std.specs.Prelude.{Bool, true, cond, ◌&&◌, List, [], ◌∷◌, ◌++◌, ℕ, replicate}
+use Rattle.std.specs.Prelude.{Err, Ok, Result, Bool, true, cond, ◌&&◌, List, [], ◌∷◌, ◌++◌, ℕ, replicate}
 use Rattle.entries.specs.Row.{entry_row}
 use Rattle.edition.specs.declared.Change.{Change}
 use Rattle.edition.specs.declared.Search.{Search}
-use Rattle.edition.specs.declared.Verdict.TheVariants.{Refused}
 use Rattle.edition.specs.declared.Measure.{Measure}
 use Rattle.edition.specs.Limits.{map_words, route_room}
 use Rattle.edition.specs.Refusals.{said, if_taken}
@@ -11,8 +10,7 @@ use Rattle.rows.specs.Count.{rows_to}
 use Rattle.rows.specs.Lists.{same}
 use Rattle.network.specs.Network.{Net, net_of}
 use Rattle.tree.specs.Tree.{tree_of, meet, apart}
-use Rattle.tree.specs.declared.Answer.{Answer}
-use Rattle.tree.specs.declared.Answer.TheVariants.{Is, Not}
+use Rattle.edition.specs.declared.Refusal.{Refusal}
 use Rattle.tree.specs.Answers.{meet_answer, apart_answer}
 use Rattle.swap.specs.Swap.{new_dist}
 use Rattle.swap.specs.Entry.{entry}
@@ -69,9 +67,9 @@ unfoldable pub list_said : Net → Question → List ℕ
 list_said g a = if_taken (forward_verdict g a list_room list_room) (cond (cut_off g a) 1 0 ∷ (way g a).length ∷ []) []
 
 -- What an answer of the tree says: 0, 0 and its number, or the refusal's number and place.
-unfoldable pub numbers_of : Answer → List ℕ
-numbers_of (Is d) = 0 ∷ 0 ∷ d ∷ []
-numbers_of (Not r) = said (Refused r)
+unfoldable pub numbers_of : Result ℕ Refusal → List ℕ
+numbers_of (Ok d) = 0 ∷ 0 ∷ d ∷ []
+numbers_of (Err r) = said (Err r)
 
 -- What the definitions answer.
 unfoldable pub answer : Ask → List ℕ

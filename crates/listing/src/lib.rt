@@ -60,13 +60,11 @@ fn put_swaps(out: &mut [u8], at: usize, entry: Entry) -> usize
 fn put_state(out: &mut [u8], at: usize, entry: Entry) -> usize
     ensures { result ≤ length out.new }
 {
-    if entry.state == Edition::SWAP {
-        return put_swaps(out, at, entry);
+    match entry.state {
+        Edition::SWAP => put_swaps(out, at, entry),
+        Edition::NONE => output::put(out, at, b" none\n"),
+        _ => output::put(out, at, b" bridge\n"),
     }
-    if entry.state == Edition::NONE {
-        return output::put(out, at, b" none\n");
-    }
-    output::put(out, at, b" bridge\n")
 }
 
 // Prints the line of node x, which is not the root.
@@ -78,28 +76,13 @@ pub fn put_node(out: &mut [u8], at: usize, x: usize, parents: &[u16], entries: &
     put_state(out, linked, entries::entry_at(entries, x))
 }
 
-// Prints the line of node x; the root has none.
-fn put_other(
-    out: &mut [u8],
-    at: usize,
-    root: u16,
-    x: usize,
-    parents: &[u16],
-    entries: &[u64],
-) -> usize {
-    if x == root as usize {
-        return at;
-    }
-    put_node(out, at, x, parents, entries)
-}
-
 // Prints the lines of all nodes but the root, in number order.
 fn put_nodes(out: &mut [u8], at: usize, root: u16, parents: &[u16], entries: &[u64]) -> usize {
     let mut waits = at;
-    let mut x = 0;
-    while x < parents.len() {
-        waits = put_other(out, waits, root, x, parents, entries);
-        x += 1;
+    for x in 0..parents.len() {
+        if x != root as usize {
+            waits = put_node(out, waits, x, parents, entries);
+        }
     }
     waits
 }

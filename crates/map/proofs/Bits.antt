@@ -1,5 +1,6 @@
 -- The unprotected map on its definitions: bit x mod 64 of word x div 64 is 1 exactly where x is a node in state 2 or 3, the count is
 -- the number of ones, and the lowest is the lowest, 65,535 exactly where there is none. Assumes nothing.
+use Rattle.std.specs.Prelude.{Option}
 use mathlib.Core.Path.{◌≡◌, refl, sym, ap, ◌∙◌}
 use mathlib.Core.Bool.{Bool, true, false}
 use mathlib.Core.List.{[], ◌∷◌}
@@ -9,7 +10,6 @@ use native.Mathlib.Omega.{arith}
 use lib.Dec.{ltb}
 use lib.ListN.{length, get_or}
 use borrow.Author.Tests.{ltb-true, ltb-false}
-use Rattle.edition.specs.declared.Found.{Found}
 use Rattle.edition.specs.Limits.{no_node, node_limit, map_words, word_bits}
 use Rattle.rows.specs.Count.{sum_to, rows_to, row_with, only_if}
 use Rattle.rows.specs.First.{found_or}
@@ -84,7 +84,7 @@ module _ (g : Net) where
           go true e = ltb-true x g.nodes e
           go false e = clash h (unprotected-node x (ltb-false x g.nodes e))
 
-      go : {f : Found} → Lowest (unprotected g) g.nodes f → (unprotected g (found_or no_node f) ≡ true) × (found_or no_node f ≤ x)
+      go : {f : Option ℕ} → Lowest (unprotected g) g.nodes f → (unprotected g (found_or no_node f) ≡ true) × (found_or no_node f ≤ x)
       go (nowhere n) = clash h (n x low)
       go (here {e = y} l e n) = (e, under (ltb x y) refl)
         where
@@ -104,6 +104,6 @@ module _ (g : Net) where
   unfolding lowest found_or
   none-lowest n = go (first-is (unprotected g) g.nodes)
     where
-      go : {f : Found} → Lowest (unprotected g) g.nodes f → found_or no_node f ≡ no_node
+      go : {f : Option ℕ} → Lowest (unprotected g) g.nodes f → found_or no_node f ≡ no_node
       go (nowhere h) = refl
       go (here {e = y} l e h) = clash e (n y)

@@ -1,11 +1,12 @@
 -- A number made of tests: how the loop builds it from its highest bit down, how many ones it has, which is the lowest.
 -- Assumes nothing.
-use mathlib.Core.Path.{◌≡◌, refl, sym, subst, ap, ◌∙◌}
+use mathlib.Core.Path.{◌≡◌, refl, sym, ap}
 use mathlib.Core.Bool.{Bool, true, false}
-use Prim.Native.Nat.{ℕ, zero, suc, ◌+◌, ◌*◌, ◌-◌, ◌/◌, ◌%◌, ◌^◌, ◌<◌, ◌≤◌}
-use native.Mathlib.Nat.{pow-suc, pow-succ', not-suc-le-zero}
+use Prim.Native.Nat.{ℕ, zero, suc, ◌+◌, ◌*◌, ◌/◌, ◌%◌, ◌^◌, ◌<◌, ◌≤◌}
+use native.Mathlib.Nat.{pow-suc, pow-succ', not-suc-le-zero, mod-eq_of_lt}
+use native.Mathlib.Numerals.{add-one}
 use native.Mathlib.Omega.{arith}
-use lib.Pow.{pow_mono}
+use lib.Pow.{pow_mono, pow-lt}
 use lib.Count.{ones, ones_cat, count_trailing_zeros}
 use Rattle.edition.specs.Limits.{word_bits}
 use Rattle.rows.specs.Count.{sum_to, only_if}
@@ -25,9 +26,6 @@ pub only_odd : (b : Bool) → only_if b 1 ≤ 1
 unfolding only_if
 only_odd true = omega arith
 only_odd false = omega arith
-
-pub bit_small : (b : Bool) (w : ℕ) → w ≡ only_if b 1 → w ≤ 1
-bit_small b w q = rw q (only_small b 1 1 (λ e. omega arith))
 
 twice : (b : Bool) (k : ℕ) → only_if b (2 ^ suc k) ≡ 2 * only_if b (2 ^ k)
 unfolding only_if
@@ -49,42 +47,21 @@ unfolding packed sum_to
 shift p zero = omega arith
 shift p (suc k) = omega (arith, shift p k, twice (p (suc k)) k)
 
--- what the loop keeps: the bits from j on of the word that begins at a base
-pub record Packing (p : ℕ → Bool) (base j word : ℕ) : Type 0 where
-  pub low : j ≤ word_bits
-  pub is : word ≡ packed (λ i. p (base + (j + i))) (word_bits - j)
+-- a word of the first j tests, and one test more: where it passes, its bit comes on top of the others, and the word has room for it
+module _ (p : ℕ → Bool) (j word : ℕ) (s : word ≡ packed p j) (l : j < word_bits) where
+  bit_is : 1 * 2 ^ j % 2 ^ 64 ≡ 2 ^ j
+  bit_is = let one : 1 * 2 ^ j ≡ 2 ^ j = omega arith in rw one (mod-eq_of_lt (pow-lt l))
 
-module _ (p : ℕ → Bool) (base : ℕ) where
-  pub pack_start : Packing p base word_bits 0
+  pub bit_room : word + 1 * 2 ^ j % 2 ^ 64 < 2 ^ 64
+  bit_room = rw bit_is (omega (arith, s, packed_lt p j, pow-suc 2 j, pow_mono {i = suc j} {j = 64} l))
+
+  pub bit_more : true ≡ p j → word + 1 * 2 ^ j % 2 ^ 64 ≡ packed p (j + 1)
   unfolding packed sum_to
-  pack_start = record { low = omega arith; is = refl }
+  bit_more e = rw (bit_is, add-one, only_is (p j) (2 ^ j) (sym e), s)
 
-  module _ (j word : ℕ) (s : Packing p base j word) where
-    pub pack_room : 0 < j → 2 * word + 1 < 2 ^ 64
-    pack_room l =
-        let most : word < 2 ^ (word_bits - j) = rw s.is (packed_lt (λ i. p (base + (j + i))) (word_bits - j)) in
-        omega (arith, most, pow_mono {i = word_bits - j} {j = 63} (omega (arith, l, s.low)))
-
-    pub pack_more : 0 < j → (b : ℕ) → b ≡ only_if (p (base + (j - 1))) 1 → Packing p base (j - 1) (2 * word + b)
-    pack_more l b q =
-        let size : word_bits - (j - 1) ≡ suc (word_bits - j) = omega (arith, l, s.low) in
-        let first : base + (j - 1) ≡ base + (j - 1 + 0) = omega arith in
-        let others :
-        packed (λ i. p (base + (j - 1 + suc i))) (word_bits - j) ≡ packed (λ i. p (base + (j + i))) (word_bits - j) =
-        packed_cong _ _ (word_bits - j) (λ i m. ap p (omega (arith, l))) in
-        let whole = shift (λ i. p (base + (j - 1 + i))) (word_bits - j) in
-        record {
-          low = omega (arith, s.low);
-          is = subst (λ k. 2 * word + b ≡ packed (λ i. p (base + (j - 1 + i))) k) (sym size)
-              (omega (arith, s.is, q ∙ ap (λ x. only_if (p x) 1) first, others, whole));
-        }
-
-    pub pack_end : j ≤ 0 → word ≡ packed (λ i. p (base + i)) word_bits
-    pack_end l =
-        let none : j ≡ 0 = omega arith in
-        s.is
-        ∙ (ap (λ k. packed (λ i. p (base + (k + i))) (word_bits - k)) none
-        ∙ packed_cong _ _ word_bits (λ i m. ap p (omega arith)))
+  pub bit_less : false ≡ p j → word ≡ packed p (j + 1)
+  unfolding packed sum_to
+  bit_less e = rw (add-one, only_none (p j) (2 ^ j) (sym e)) (omega (arith, s))
 
 -- the number of ones
 pub ones_packed : (p : ℕ → Bool) (k : ℕ) → ones (packed p k) ≡ sum_to (λ j. only_if (p j) 1) k

@@ -1,4 +1,5 @@
 -- The map of a table is the map of its network. Assumes nothing.
+use Rattle.std.specs.Prelude.{Err, Ok, Result}
 use mathlib.Core.Path.{◌≡◌, refl, sym, ap, ◌∙◌}
 use mathlib.Core.Bool.{Bool, true, false, ◌&&◌, ◌||◌}
 use mathlib.Core.List.{List, [], ◌∷◌, ◌++◌}
@@ -7,8 +8,7 @@ use lib.Dec.{eqb, ltb}
 use lib.ListN.{length, drop}
 use borrow.Author.Tests.{ltb-true, le-ltb, lt-ltb}
 use Rattle.edition.specs.declared.Refusal.{Refusal}
-use Rattle.edition.specs.declared.Verdict.{Verdict}
-use Rattle.edition.specs.declared.Verdict.TheVariants.{Taken, Refused}
+use Rattle.edition.specs.Refusals.{Verdict, taken}
 use Rattle.edition.specs.declared.Why.TheVariants.{NoRoom}
 use Rattle.edition.specs.Limits.{no_node, map_words, word_bits}
 use Rattle.edition.specs.declared.Entry.{Entry}
@@ -29,8 +29,7 @@ use Rattle.swap.proofs.Stating.{entry-state}
 use Rattle.table.specs.Table.{table, table_verdict, table_row}
 use Rattle.table.proofs.Single.{bare_row, bare_verdict}
 use Rattle.table.proofs.Whole.{table_sound, table-entry}
-use Rattle.map.specs.declared.MapAnswer.{MapAnswer}
-use Rattle.map.specs.declared.MapAnswer.TheVariants.{Is, Not}
+use Rattle.map.specs.declared.Unprotected.{Unprotected}
 use Rattle.map.specs.Map.{unprotected, word, map_of, count_unprotected, lowest, told_of, map_verdict, map_answer, map_row}
 use Rattle.map.specs.Work.{open_by, packed, word_by, words_by, ones_in, lowest_in, too_short, told_by, left_by}
 use Rattle.map.proofs.Packing.{packed_cong}
@@ -41,26 +40,26 @@ state_at : (g : Net) (more : List ℕ) (x : ℕ) → x < g.nodes → (entry_at (
 state_at g more x l = ap (λ (e : Entry). e.state) (table-entry g more x l) ∙ entry-state g x
 
 module _ (g : Net) where
-  net_refused : (r : Refusal) → table_verdict g bare_row ≡ Refused r → net_verdict g ≡ Refused r
+  net_refused : (r : Refusal) → table_verdict g bare_row ≡ Err r → net_verdict g ≡ Err r
   net_refused r q = go (net_verdict g) refl
     where
-      go : (v : Verdict) → net_verdict g ≡ v → net_verdict g ≡ Refused r
+      go : (v : Verdict) → net_verdict g ≡ v → net_verdict g ≡ Err r
       go v e = e ∙ (sym (bare_verdict g v e) ∙ q)
 
   module _ (words : List ℕ) where
     -- a network that is refused
-    module _ (v : Verdict) (q : v ≡ table_verdict g bare_row) (r : Refusal) (t : v ≡ Refused r) where
-      map_refuses : map_verdict g words ≡ Refused r
+    module _ (v : Verdict) (q : v ≡ table_verdict g bare_row) (r : Refusal) (t : v ≡ Err r) where
+      map_refuses : map_verdict g words ≡ Err r
       unfolding map_verdict
       map_refuses = head_refuses _ _ r (net_refused r (sym q ∙ t))
 
-      pub map-not : (Not r ≡ map_answer g words) × (words ≡ map_row g words)
+      pub map-not : (Err r ≡ map_answer g words) × (words ≡ map_row g words)
       unfolding map_answer map_row
       map-not = (rw map_refuses, rw map_refuses)
 
     -- one that is sound, and its table
-    module _ (v : Verdict) (q : v ≡ table_verdict g bare_row) (t : v ≡ Taken) (row : List ℕ) (e : row ≡ table_row g bare_row) where
-      ok : net_verdict g ≡ Taken
+    module _ (v : Verdict) (q : v ≡ table_verdict g bare_row) (t : v ≡ taken) (row : List ℕ) (e : row ≡ table_row g bare_row) where
+      ok : net_verdict g ≡ taken
       ok = table_sound g bare_row v q t
 
       few : g.nodes ≤ map_words * word_bits
@@ -90,42 +89,41 @@ module _ (g : Net) where
           ap (λ (r : List ℕ). r ++ drop map_words words)
           (rows_cong _ _ map_words (λ i l. ap (λ w. w ∷ []) (packed_cong _ _ word_bits (λ j m. same (i * word_bits + j)))))
 
-      told_is :
-          Is
-          (record {
-            count =
-                ones_in (words_by (open_by row g.nodes) words);
-            lowest =
-                lowest_in (words_by (open_by row g.nodes) words);
-          })
-          ≡ Is (told_of g)
-      unfolding told_of count_unprotected lowest
+      told : Unprotected
+      told =
+          record {
+            count = ones_in (words_by (open_by row g.nodes) words);
+            lowest = lowest_in (words_by (open_by row g.nodes) words);
+          }
+
+      told_is : told ≡ told_of g
+      unfolding told told_of count_unprotected lowest
       told_is =
           let counts = ones_are (open_by row g.nodes) g.nodes few past words ∙ sum_cong _ _ g.nodes (λ x l. ap (λ b. only_if b 1) (same x)) in
           let lows = lowest-is (open_by row g.nodes) g.nodes few past words ∙ ap (found_or no_node) (first_cong _ _ g.nodes (λ x l. same x)) in
           rw (counts, lows)
 
       pub map_is :
-          (r : MapAnswer)
+          (r : Result Unprotected Refusal)
           → r ≡ told_by (open_by row g.nodes) words → (after : List ℕ) → after ≡ left_by (open_by row g.nodes) words
           → (r ≡ map_answer g words) × (after ≡ map_row g words)
-      unfolding told_by left_by map_answer map_row map_verdict refuse_if too_short firstly
+      unfolding told told_by left_by map_answer map_row map_verdict refuse_if too_short firstly
       map_is r p after s = go (ltb (length words) map_words) refl
         where
           go : (b : Bool) → ltb (length words) map_words ≡ b → (r ≡ map_answer g words) × (after ≡ map_row g words)
           go true l = (p ∙ rw (ok, l), s ∙ rw (ok, l))
-          go false l = (p ∙ rw (ok, l) told_is, s ∙ rw (ok, l) words_are)
+          go false l = (p ∙ rw (ok, l) (ap Ok told_is), s ∙ rw (ok, l) words_are)
 
 -- what the lent row's length decides
 module _ (p : ℕ → Bool) (words : List ℕ) where
-  pub too_short_lem : length words < map_words → (Not (record { why = NoRoom; place = 0 }) ≡ told_by p words) × (words ≡ left_by p words)
+  pub too_short_lem : length words < map_words → (Err (record { why = NoRoom; place = 0 }) ≡ told_by p words) × (words ≡ left_by p words)
   unfolding told_by left_by too_short
   too_short_lem l = (rw (lt-ltb (length words) map_words l), rw (lt-ltb (length words) map_words l))
 
   pub long-enough :
       map_words ≤ length words
       → (after : List ℕ) → after ≡ words_by p words → (count : ℕ) → count ≡ ones_in after → (low : ℕ)
-      → low ≡ lowest_in after → (Is (record { count = count; lowest = low }) ≡ told_by p words) × (after ≡ left_by p words)
+      → low ≡ lowest_in after → (Ok (record { count = count; lowest = low }) ≡ told_by p words) × (after ≡ left_by p words)
   unfolding told_by left_by too_short
   long-enough l after e count c low d =
       (rw (le-ltb (length words) map_words l, ← e, c, d), rw (le-ltb (length words) map_words l) e)

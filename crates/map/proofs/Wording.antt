@@ -1,55 +1,36 @@
 -- The words of a row: the loop that counts their ones, and what count and lowest one are where the words are made of tests.
 -- Assumes nothing.
+use Rattle.std.specs.Prelude.{None, Option, Some}
 use mathlib.Core.Path.{◌≡◌, refl, sym, subst, ap, ◌∙◌}
 use mathlib.Core.Bool.{Bool, true, false, not}
 use mathlib.Core.List.{List}
 use Prim.Native.Nat.{ℕ, zero, suc, ◌+◌, ◌*◌, ◌-◌, ◌/◌, ◌%◌, ◌^◌, ◌<◌, ◌≤◌}
 use native.Mathlib.Nat.{add_assoc}
-use native.Mathlib.Numerals.{add-one}
 use native.Mathlib.Omega.{arith}
 use lib.Count.{ones, ones-le, count_trailing_zeros}
 use lib.Dec.{eqb, ltb}
 use lib.ListN.{get_or}
 use borrow.Author.Tests.{not-false, eqb-true, eq-eqb, ltb-true, ltb-false}
-use Rattle.edition.specs.declared.Found.{Found}
-use Rattle.edition.specs.declared.Found.TheVariants.{Nothing, At}
 use Rattle.edition.specs.Limits.{no_node, map_words, word_bits}
 use Rattle.rows.specs.Count.{sum_to, only_if}
 use Rattle.rows.specs.First.{first_to, found_or}
-use Rattle.rows.proofs.Best.{is_at, Lowest, nowhere, here, first-is, first_unique}
+use Rattle.rows.proofs.Best.{Lowest, nowhere, here, first-is, first_unique}
 use Rattle.rows.proofs.Counting.{sum_cong, sum-none}
 use Rattle.rows.proofs.Filling.{filled_at}
 use Rattle.rows.proofs.Tests.{clash}
 use Rattle.map.specs.Work.{word_by, words_by, ones_in, some_in, lowest_at, lowest_in}
 use Rattle.map.proofs.Packing.{only_none, ones_packed, none-packed, packed_none, trailing_packed}
 
--- what the loop keeps
-pub record Counting (row : List ℕ) (total i : ℕ) : Type 0 where
-  pub low : i ≤ map_words
-  pub few : total ≤ word_bits * i
-  pub is : total ≡ sum_to (λ i. ones (get_or row i 0)) i
+-- the first k words have no more ones than bits
+ones_few : (row : List ℕ) → ((i : ℕ) → get_or row i 0 < 2 ^ 64) → (k : ℕ) → sum_to (λ i. ones (get_or row i 0)) k ≤ word_bits * k
+unfolding sum_to
+ones_few row held zero = omega arith
+ones_few row held (suc k) = omega (arith, ones_few row held k, ones-le 64 (get_or row k 0) (held k))
 
-module _ (row : List ℕ) where
-  pub counting_start : Counting row 0 0
-  unfolding sum_to
-  counting_start = record { low = omega arith; few = omega arith; is = refl }
-
-  module _ (total i : ℕ) (s : Counting row total i) where
-    pub counting_room : i < map_words → get_or row i 0 < 2 ^ 64 → total + ones (get_or row i 0) < 2 ^ 32
-    counting_room l held = omega (arith, s.few, ones-le 64 (get_or row i 0) held)
-
-    pub counting_more : i < map_words → get_or row i 0 < 2 ^ 64 → Counting row (total + ones (get_or row i 0)) (i + 1)
-    unfolding sum_to
-    counting_more l held =
-        record {
-          low = omega arith;
-          few = omega (arith, s.few, ones-le 64 (get_or row i 0) held);
-          is = rw add-one (ap (λ t. t + ones (get_or row i 0)) s.is);
-        }
-
-    pub counting_end : map_words ≤ i → total ≡ ones_in row
-    unfolding ones_in
-    counting_end l = subst (λ k. total ≡ sum_to (λ i. ones (get_or row i 0)) k) (omega (arith, s.low)) s.is
+pub ones_room :
+    (row : List ℕ) → ((i : ℕ) → get_or row i 0 < 2 ^ 64) → (k : ℕ) → k < map_words → (total : ℕ) → total ≡ sum_to (λ i. ones (get_or row i 0)) k
+    → total + ones (get_or row k 0) < 2 ^ 32
+ones_room row held k l total q = omega (arith, l, q, ones_few row held k, ones-le 64 (get_or row k 0) (held k))
 
 -- a sum in two parts
 sum_split : (f : ℕ → ℕ) (a b : ℕ) → sum_to f (a + b) ≡ sum_to f a + sum_to (λ j. f (a + j)) b
@@ -107,7 +88,7 @@ module _ (p : ℕ → Bool) (n : ℕ) (few : n ≤ map_words * word_bits) (past 
         (i j : ℕ)
         → i < map_words → ((k : ℕ) → k < i → some_in (words_by p row) k ≡ false) → j < word_bits
         → p (i * word_bits + j) ≡ true → ((k : ℕ) → k < j → p (i * word_bits + k) ≡ false)
-        → lowest_at (words_by p row) (At i) ≡ found_or no_node (first_to p n)
+        → lowest_at (words_by p row) (Some i) ≡ found_or no_node (first_to p n)
     unfolding lowest_at word_by found_or
     found_in i j l none m e low =
         ap (λ w. i * word_bits + count_trailing_zeros word_bits w) (word-is i l)
@@ -135,7 +116,7 @@ module _ (p : ℕ → Bool) (n : ℕ) (few : n ≤ map_words * word_bits) (past 
     none-word i l h =
         ap not (eq-eqb (get_or (words_by p row) i 0) 0 (word-is i l ∙ none-packed (λ j. p (i * word_bits + j)) word_bits h))
 
-    none-lowest : ((k : ℕ) → k < map_words → some_in (words_by p row) k ≡ false) → lowest_at (words_by p row) Nothing ≡ found_or no_node (first_to p n)
+    none-lowest : ((k : ℕ) → k < map_words → some_in (words_by p row) k ≡ false) → lowest_at (words_by p row) None ≡ found_or no_node (first_to p n)
     unfolding lowest_at found_or
     none-lowest h =
         ap (found_or no_node)
@@ -149,28 +130,23 @@ module _ (p : ℕ → Bool) (n : ℕ) (few : n ≤ map_words * word_bits) (past 
         within :
             (i : ℕ)
             → i < map_words → some_in (words_by p row) i ≡ true → ((k : ℕ) → k < i → some_in (words_by p row) k ≡ false)
-            → {f : Found} → Lowest (λ j. p (i * word_bits + j)) word_bits f
-            → lowest_at (words_by p row) (At i) ≡ found_or no_node (first_to p n)
+            → {f : Option ℕ} → Lowest (λ j. p (i * word_bits + j)) word_bits f
+            → lowest_at (words_by p row) (Some i) ≡ found_or no_node (first_to p n)
         within i l e none (nowhere h) = clash e (none-word i l h)
         within i l e none (here {e = j} m q low) = found_in i j l none m q low
 
-        go : {f : Found} → Lowest (some_in (words_by p row)) map_words f → lowest_at (words_by p row) f ≡ found_or no_node (first_to p n)
+        go : {f : Option ℕ} → Lowest (some_in (words_by p row)) map_words f → lowest_at (words_by p row) f ≡ found_or no_node (first_to p n)
         go (nowhere h) = none-lowest h
         go (here {e = i} l e none) = within i l e none (first-is (λ j. p (i * word_bits + j)) word_bits)
 
-not_at : {i : ℕ} → Nothing ≡ At i → ⊥
-not_at {i} e = clash {b = is_at (At i)} refl (sym (ap is_at e))
-
--- the word found is one of the row's words, and its lowest one is the lowest of all
-module _ (row : List ℕ) (f : Found) (q : f ≡ first_to (some_in row) map_words) (i : ℕ) (e : f ≡ At i) where
-  pub lowest-room : i < map_words
-  unfolding found_or
-  lowest-room = go (first-is (some_in row) map_words) (sym q ∙ e)
-    where
-      go : {g : Found} → Lowest (some_in row) map_words g → g ≡ At i → i < map_words
-      go (nowhere h) n = absurd (not_at n)
-      go (here {e = j} l m h) n = subst (λ k. k < map_words) (ap (found_or 0) n) l
-
-  pub lowest-found : (w : ℕ) → w ≡ get_or row i 0 → i * word_bits + count_trailing_zeros word_bits w ≡ lowest_in row
+-- the lowest one of a row, by the first of its words that is not 0
+module _ (row : List ℕ) where
+  pub lowest_here :
+      (i : ℕ)
+      → Some i ≡ first_to (some_in row) map_words → (w : ℕ) → w ≡ get_or row i 0 → i * word_bits + count_trailing_zeros word_bits w ≡ lowest_in row
   unfolding lowest_in lowest_at
-  lowest-found w p = rw (← q, e, p)
+  lowest_here i q w p = rw (← q, p)
+
+  pub lowest_nowhere : None ≡ first_to (some_in row) map_words → no_node ≡ lowest_in row
+  unfolding lowest_in lowest_at
+  lowest_nowhere q = rw (← q)

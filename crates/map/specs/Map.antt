@@ -1,10 +1,8 @@
 -- The unprotected map: eight words, the number of ones, the lowest unprotected node. Assumes nothing.
-use Rattle.std.specs.Prelude.{Bool, ◌&&◌, ◌||◌, List, [], ◌∷◌, ◌++◌, ℕ, ◌+◌, ◌*◌, ◌^◌, eqb, ltb, length, drop}
-use Rattle.edition.specs.declared.Verdict.{Verdict}
-use Rattle.edition.specs.declared.Verdict.TheVariants.{Taken, Refused}
+use Rattle.std.specs.Prelude.{Err, Ok, Result, Bool, ◌&&◌, ◌||◌, List, [], ◌∷◌, ◌++◌, ℕ, ◌+◌, ◌*◌, ◌^◌, eqb, ltb, length, drop}
+use Rattle.edition.specs.Refusals.{Verdict, if_taken}
 use Rattle.edition.specs.declared.Why.TheVariants.{NoRoom}
 use Rattle.edition.specs.Limits.{no_node, map_words, word_bits}
-use Rattle.edition.specs.Refusals.{if_taken}
 use Rattle.edition.specs.Entries.{none_state, bridge_state}
 use Rattle.rows.specs.Count.{sum_to, rows_to, only_if}
 use Rattle.rows.specs.First.{first_to, found_or, refuse_if, firstly}
@@ -12,8 +10,7 @@ use Rattle.network.specs.Network.{Net}
 use Rattle.sound.specs.Sound.{net_verdict}
 use Rattle.swap.specs.Entry.{state}
 use Rattle.map.specs.declared.Unprotected.{Unprotected}
-use Rattle.map.specs.declared.MapAnswer.{MapAnswer}
-use Rattle.map.specs.declared.MapAnswer.TheVariants.{Is, Not}
+use Rattle.edition.specs.declared.Refusal.{Refusal}
 
 -- Is x a node in state 2 or 3?
 unfoldable pub unprotected : Net → ℕ → Bool
@@ -44,12 +41,12 @@ unfoldable pub map_verdict : Net → List ℕ → Verdict
 map_verdict g row = firstly (net_verdict g ∷ refuse_if (ltb (length row) map_words) NoRoom 0 ∷ [])
 
 -- What is told where the verdict is taken, else the refusal.
-abbrev pub map_if : Verdict → Unprotected → MapAnswer
-map_if Taken told = Is told
-map_if (Refused r) told = Not r
+abbrev pub map_if : Verdict → Unprotected → Result Unprotected Refusal
+map_if (Ok _) told = Ok told
+map_if (Err r) told = Err r
 
 -- What the call answers: count and lowest, or the refusal.
-unfoldable pub map_answer : Net → List ℕ → MapAnswer
+unfoldable pub map_answer : Net → List ℕ → Result Unprotected Refusal
 map_answer g row = map_if (map_verdict g row) (told_of g)
 
 -- What the lent row then holds: the map and what lay past it, or on a refusal what it held.

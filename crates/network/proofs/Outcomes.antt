@@ -1,7 +1,6 @@
 -- Two outcomes that a promise allows are equal: one theorem a public function, in the words of its contract. Assumes nothing.
-use Prim.Native.Nat.{ℕ}
+use Prim.Native.Nat.{ℕ, ◌*◌, min}
 use mathlib.Core.List.{List}
-use Prim.Native.Nat.{◌*◌, min}
 use Rattle.edition.specs.Limits.{no_link, link_limit, link_width}
 use Rattle.edition.specs.declared.Limits.{Limits}
 use Rattle.edition.specs.declared.Search.{Search}
@@ -106,5 +105,5 @@ one_check_marks links = one _
 pub one_check_parents :
     (links parents : List ℕ) (search : Search) →
     let g = net_of links parents search in
-    One (refuse_at (bad_parent g) (length parents) BadParent)
+    One (refuse_at (bad_parent g) g.nodes BadParent)
 one_check_parents links parents search = one _

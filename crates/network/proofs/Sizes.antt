@@ -7,7 +7,7 @@ use lib.Dec.{eqb, ltb}
 use borrow.Author.Tests.{ltb-false, le-ltb}
 use Rattle.edition.specs.declared.Limits.{Limits}
 use Rattle.edition.specs.declared.Search.{Search}
-use Rattle.edition.specs.declared.Verdict.TheVariants.{Taken}
+use Rattle.edition.specs.Refusals.{taken}
 use Rattle.edition.specs.declared.Why.TheVariants.{NodeCount, LinkCount, BadDepth}
 use Rattle.edition.specs.Limits.{whole_search}
 use Rattle.edition.proofs.Within.{Within}
@@ -24,7 +24,7 @@ unfolding bad_links
 links-within most m h = ltb-false most.links m h
 
 -- the same of 1 to 4 and 14
-module _ (most : Limits) (n m : ℕ) (search : Search) (t : size_verdict most n m search ≡ Taken) where
+module _ (most : Limits) (n m : ℕ) (search : Search) (t : size_verdict most n m search ≡ taken) where
   pub sized-nodes : n ≤ most.nodes
   unfolding size_verdict
   sized-nodes = nodes-within most n (if_taken_lem _ NodeCount 0 (head_taken _ _ t))
@@ -53,7 +53,7 @@ module _ (small large : Limits) (w : Within small large) where
       go true e = rw (rw e at h) (and_none (ltb large.depth d))
       go false e = rw (le-ltb large.depth d (omega (arith, w.depth, ltb-false small.depth d e)))
 
-  pub sizes_grow : (n m : ℕ) (search : Search) → size_verdict small n m search ≡ Taken → size_verdict large n m search ≡ Taken
+  pub sizes_grow : (n m : ℕ) (search : Search) → size_verdict small n m search ≡ taken → size_verdict large n m search ≡ taken
   unfolding size_verdict
   sizes_grow n m search t =
       let t2 = rest-taken _ _ t in

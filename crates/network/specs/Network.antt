@@ -6,6 +6,7 @@ use Rattle.edition.specs.Limits.{no_link, link_width, served}
 use Rattle.rows.specs.Count.{some_to}
 use Rattle.rows.specs.Records.{records_in, record_in, with_record, first_records, past_records}
 use Rattle.network.specs.declared.Link.{Link}
+use Rattle.network.specs.declared.lent.Network.{Network}
 
 -- n nodes and m links; the record of each link, the parent link of each node; root, depth and tie rule.
 pub record Net : Type 0 where
@@ -57,6 +58,10 @@ net_of links parents search =
       parent = λ u. get_or parents u no_link;
       search = search;
     }
+
+-- The network that is lent.
+abbrev pub lent : Network → Net
+lent n = net_of n.links.now n.parents.now n.search
 
 -- Is the link in service?
 unfoldable pub in_service : Link → Bool

@@ -2,7 +2,7 @@
 use Rattle.std.specs.Prelude.{Bool, cond, not, ◌&&◌, ◌||◌, [], ◌∷◌, ℕ, eqb, leb, ltb}
 use Rattle.edition.specs.declared.Limits.{Limits}
 use Rattle.edition.specs.declared.Search.{Search}
-use Rattle.edition.specs.declared.Verdict.{Verdict}
+use Rattle.edition.specs.Refusals.{Verdict}
 use Rattle.edition.specs.declared.Why.TheVariants.{NodeCount, LinkCount, BadRoot, BadDepth, BadRule}
 use Rattle.edition.specs.Limits.{no_link, whole_search, lowest_number, nearer_first, served, withdrawn}
 use Rattle.rows.specs.First.{refuse_if, firstly}

@@ -5,10 +5,14 @@ ghost use Rattle.std.specs.Prelude.{◌≡◌, ◌*◌, min, length, get_or};
 ghost use Rattle.edition.specs.Limits.{no_link, link_limit, link_width};
 ghost use Rattle.edition.specs.declared.Why.TheVariants.{NodeCount, LinkCount, BadRoot, BadDepth, BadRule, BadEnds, BadMark, BadParent};
 ghost use Rattle.rows.specs.First.{first_to, refuse_if, refuse_at};
-ghost use Rattle.network.specs.Network.{links_in, link_in, put_link, front_links, past_links, net_of, is_parent, in_service, touches, other_end};
+ghost use Rattle.network.specs.Network.{links_in, link_in, put_link, front_links, past_links, lent, is_parent, in_service, touches, other_end};
 ghost use Rattle.network.specs.Records.{bad_nodes, bad_links, bad_root, bad_depth, bad_rule, size_verdict, bad_ends, bad_mark, unfit, bad_parent};
 
-use edition::{Edition, Found, Limits, Memory, Search, Verdict, Why};
+use edition::{Edition, Limits, Memory, Refusal, Search, Why};
+
+mod lent;
+
+pub use lent::Network;
 
 // A link's record: its two ends, its length and its service mark.
 #[derive(Clone, Copy)]
@@ -108,12 +112,10 @@ pub fn is_parent(parents: &[u16], e: usize) -> bool
     ensures { let row = parents.now in
         result ≡ is_parent (λ u. get_or row u no_link) (length row) e }
 {
-    let mut u = 0;
-    while u < parents.len() {
+    for u in 0..parents.len() {
         if parent_of(parents, u) as usize == e {
             return true;
         }
-        u += 1;
     }
     false
 }
@@ -182,7 +184,7 @@ fn bad_rule(rule: u16) -> bool
 }
 
 // Refusal 1, of the number of nodes.
-pub fn check_nodes(most: Limits, n: usize) -> Verdict
+pub fn check_nodes(most: Limits, n: usize) -> Result<(), Refusal>
     ensures { result ≡ refuse_if (bad_nodes most n) NodeCount 0 }
 {
     rows::refuse_if(bad_nodes(most, n), Why::NodeCount, 0)
@@ -190,7 +192,7 @@ pub fn check_nodes(most: Limits, n: usize) -> Verdict
 
 // Refusal 2, of the number of links.
 #[tactic(auto, unfolding(crate::specs::Records::bad_links))]
-pub fn check_links(most: Limits, m: usize) -> Verdict
+pub fn check_links(most: Limits, m: usize) -> Result<(), Refusal>
     ensures { result ≡ refuse_if (bad_links most m) LinkCount 0 }
 {
     rows::refuse_if(most.links < m, Why::LinkCount, 0)
@@ -198,21 +200,21 @@ pub fn check_links(most: Limits, m: usize) -> Verdict
 
 // Refusal 3, of the root among n nodes.
 #[tactic(auto, unfolding(crate::specs::Records::bad_root))]
-pub fn check_root(n: usize, root: u16) -> Verdict
+pub fn check_root(n: usize, root: u16) -> Result<(), Refusal>
     ensures { result ≡ refuse_if (bad_root n root) BadRoot 0 }
 {
     rows::refuse_if(n <= root as usize, Why::BadRoot, 0)
 }
 
 // Refusal 4, of the depth.
-pub fn check_depth(most: Limits, depth: u16) -> Verdict
+pub fn check_depth(most: Limits, depth: u16) -> Result<(), Refusal>
     ensures { result ≡ refuse_if (bad_depth most depth) BadDepth 0 }
 {
     rows::refuse_if(bad_depth(most, depth), Why::BadDepth, 0)
 }
 
 // Refusal 14, of the tie rule.
-pub fn check_rule(rule: u16) -> Verdict
+pub fn check_rule(rule: u16) -> Result<(), Refusal>
     ensures { result ≡ refuse_if (bad_rule rule) BadRule 0 }
 {
     rows::refuse_if(bad_rule(rule), Why::BadRule, 0)
@@ -220,25 +222,13 @@ pub fn check_rule(rule: u16) -> Verdict
 
 // Refusals 1 to 4, then 14, of numbers: n, m, root, depth and tie rule.
 #[tactic(auto, unfolding(crate::specs::Records::size_verdict, rows::specs::First::firstly))]
-pub fn check_sizes(most: Limits, n: usize, m: usize, search: Search) -> Verdict
+pub fn check_sizes(most: Limits, n: usize, m: usize, search: Search) -> Result<(), Refusal>
     ensures { result ≡ size_verdict most n m search }
 {
-    let nodes = check_nodes(most, n);
-    let Verdict::Taken = nodes else {
-        return nodes;
-    };
-    let links = check_links(most, m);
-    let Verdict::Taken = links else {
-        return links;
-    };
-    let root = check_root(n, search.root);
-    let Verdict::Taken = root else {
-        return root;
-    };
-    let depth = check_depth(most, search.depth);
-    let Verdict::Taken = depth else {
-        return depth;
-    };
+    check_nodes(most, n)?;
+    check_links(most, m)?;
+    check_root(n, search.root)?;
+    check_depth(most, search.depth)?;
     check_rule(search.rule)
 }
 
@@ -268,37 +258,22 @@ pub fn bad_mark(mark: u16) -> bool
 }
 
 // The lowest link with bad ends.
-fn first_bad_ends(links: &[u16], n: usize) -> Found
+fn first_bad_ends(links: &[u16], n: usize) -> Option<usize>
     ensures { result ≡ first_to (λ e. bad_ends n (link_in links.now e)) (links_in links.now) }
 {
-    let mut e = 0;
-    while e < links.len() / Memory::LINK {
-        if bad_ends(n, link_at(links, e)) {
-            return Found::At(e);
-        }
-        e += 1;
-    }
-    Found::Nothing
+    rows::lowest(links_in(links), |e| bad_ends(n, link_at(links, e)))
 }
 
 // The lowest link with a bad service mark.
-fn first_bad_mark(links: &[u16]) -> Found
+fn first_bad_mark(links: &[u16]) -> Option<usize>
     ensures { result ≡ first_to (λ e. bad_mark (link_in links.now e).mark) (links_in links.now) }
 {
-    let mut e = 0;
-    while e < links.len() / Memory::LINK {
-        let l = link_at(links, e);
-        if bad_mark(l.mark) {
-            return Found::At(e);
-        }
-        e += 1;
-    }
-    Found::Nothing
+    rows::lowest(links_in(links), |e| bad_mark(link_at(links, e).mark))
 }
 
 // Refusal 5, of a row of links among n nodes.
 #[tactic(auto, unfolding(rows::specs::First::refuse_at))]
-pub fn check_ends(links: &[u16], n: usize) -> Verdict
+pub fn check_ends(links: &[u16], n: usize) -> Result<(), Refusal>
     ensures { let row = links.now in
         result ≡ refuse_at (λ e. bad_ends n (link_in row e)) (links_in row) BadEnds }
 {
@@ -307,7 +282,7 @@ pub fn check_ends(links: &[u16], n: usize) -> Verdict
 
 // Refusal 6, of a row of links.
 #[tactic(auto, unfolding(rows::specs::First::refuse_at))]
-pub fn check_marks(links: &[u16]) -> Verdict
+pub fn check_marks(links: &[u16]) -> Result<(), Refusal>
     ensures { let row = links.now in
         result ≡ refuse_at (λ e. bad_mark (link_in row e).mark) (links_in row) BadMark }
 {
@@ -330,37 +305,32 @@ fn is_unfit(m: usize, e: usize, l: Link, u: usize) -> bool
 
 // 7: the root's parent link is not 65,535, or another's is unfit.
 #[tactic(auto, unfolding(crate::specs::Records::bad_parent, crate::specs::Network::net_of))]
-fn bad_parent(links: &[u16], parents: &[u16], search: Search, u: usize) -> bool
-    ensures { result ≡ bad_parent (net_of links.now parents.now search) u }
+fn bad_parent(net: Network, u: usize) -> bool
+    ensures { result ≡ bad_parent (lent net.entry) u }
 {
-    let root = search.root as usize;
+    let root = net.search.root as usize;
     let none = Edition::no_link() as usize;
-    let e = parent_of(parents, u) as usize;
+    let e = parent_of(net.parents, u) as usize;
     if u == root {
         return e != none;
     }
-    is_unfit(links_in(links), e, link_at(links, e), u)
+    is_unfit(links_in(net.links), e, link_at(net.links, e), u)
 }
 
 // The lowest node with a bad parent link.
-fn first_bad_parent(links: &[u16], parents: &[u16], search: Search) -> Found
-    ensures { let g = net_of links.now parents.now search in
-        result ≡ first_to (bad_parent g) (length parents.now) }
+#[tactic(auto, unfolding(crate::specs::Network::net_of))]
+fn first_bad_parent(net: Network) -> Option<usize>
+    ensures { let g = lent net.entry in
+        result ≡ first_to (bad_parent g) g.nodes }
 {
-    let mut found = Found::Nothing;
-    let mut u = 0;
-    while u < parents.len() {
-        found = rows::or_here(found, bad_parent(links, parents, search, u), u);
-        u += 1;
-    }
-    found
+    rows::lowest(net.parents.len(), |u| bad_parent(net, u))
 }
 
 // Refusal 7, of the row of parent links.
 #[tactic(auto, unfolding(rows::specs::First::refuse_at))]
-pub fn check_parents(links: &[u16], parents: &[u16], search: Search) -> Verdict
-    ensures { let g = net_of links.now parents.now search in
-        result ≡ refuse_at (bad_parent g) (length parents.now) BadParent }
+pub fn check_parents(net: Network) -> Result<(), Refusal>
+    ensures { let g = lent net.entry in
+        result ≡ refuse_at (bad_parent g) g.nodes BadParent }
 {
-    rows::refused_at(Why::BadParent, first_bad_parent(links, parents, search))
+    rows::refused_at(Why::BadParent, first_bad_parent(net))
 }

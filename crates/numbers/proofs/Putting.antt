@@ -1,10 +1,10 @@
 -- Numbers put one after the other: the loop that puts one from its lowest byte on, and several as one. Assumes nothing.
-use mathlib.Core.Path.{◌≡◌, refl, sym, ap, ◌∙◌}
-use mathlib.Core.List.{List, [], ◌∷◌, ◌++◌, append_assoc, append-nil}
+use mathlib.Core.Path.{◌≡◌, refl, ap, ◌∙◌}
+use mathlib.Core.List.{List, [], ◌∷◌, ◌++◌, append_assoc}
 use Prim.Native.Nat.{ℕ, zero, suc, ◌+◌, ◌-◌, ◌/◌, ◌%◌, ◌<◌, ◌≤◌}
 use native.Mathlib.Omega.{arith}
 use lib.ListN.{length, set, length-append}
-use lib.Seq.{sets, length-sets, set_comm}
+use lib.Seq.{sets, set_comm}
 use Rattle.numbers.specs.Bytes.{bytes_of}
 
 -- k bytes are k bytes
@@ -41,13 +41,7 @@ pub record Putting (before : List ℕ) (at k v left rest : ℕ) (now : List ℕ)
   pub is : now ≡ sets before (at + left) tail
 
 module _ (before : List ℕ) (at k v : ℕ) where
-  pub putting_start : Putting before at k v k v before
-  putting_start = record { tail = []; whole = sym (append-nil (bytes_of k v)); is = refl }
-
   module _ (left rest : ℕ) (now : List ℕ) (s : Putting before at k v left rest now) where
-    pub putting_length : length now ≡ length before
-    putting_length = ap length s.is ∙ length-sets before (at + left) s.tail
-
     pub putting_more : 0 < left → (after : List ℕ) → after ≡ set now (at + (left - 1)) (rest % 256) → Putting before at k v (left - 1) (rest / 256) after
     putting_more l after e =
         let one : left ≡ suc (left - 1) = omega (arith, l) in

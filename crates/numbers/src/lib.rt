@@ -9,10 +9,11 @@ ghost use Rattle.numbers.specs.Bytes.{bytes_of, number_in};
 fn byte_at(bytes: &[u8], i: usize) -> u8
     ensures { result ≡ get_or bytes.now i 0 }
 {
-    if i < bytes.len() { bytes[i] } else { 0 }
+    bytes.get(i).copied().unwrap_or(0)
 }
 
 // The number in the two bytes from a place on; bytes past the end count as 0.
+#[tactic(auto, using(crate::proofs::Getting::number_two, crate::proofs::Getting::two_past))]
 pub fn two_at(bytes: &[u8], at: usize) -> u16
     ensures { result ≡ number_in bytes.now at 2 }
 {
@@ -26,10 +27,7 @@ pub fn two_at(bytes: &[u8], at: usize) -> u16
 fn put_byte(bytes: &mut [u8], at: usize, j: usize, v: u8)
     ensures { bytes.new ≡ set bytes.old (at + j) v }
 {
-    if bytes.len() <= at {
-        return;
-    }
-    if j < bytes.len() - at {
+    if j < bytes.len().saturating_sub(at) {
         bytes[at + j] = v;
     }
 }
@@ -38,11 +36,9 @@ fn put_byte(bytes: &mut [u8], at: usize, j: usize, v: u8)
 pub fn put_number(bytes: &mut [u8], at: usize, k: usize, v: u64)
     ensures { bytes.new ≡ sets bytes.old at (bytes_of k v) }
 {
-    let mut left = k;
     let mut rest = v;
-    while 0 < left {
-        left -= 1;
-        put_byte(bytes, at, left, (rest % 256) as u8);
-        rest = rest / 256;
+    for j in (0..k).rev() {
+        put_byte(bytes, at, j, (rest % 256) as u8);
+        rest /= 256;
     }
 }

@@ -1,11 +1,9 @@
 -- Where a text goes in the buffer, and what waits once it is there. Assumes nothing.
-use mathlib.Core.Path.{◌≡◌, refl, ap, ◌∙◌}
-use mathlib.Core.Bool.{Bool, true, false, cond}
+use mathlib.Core.Path.{◌≡◌, ap, ◌∙◌}
 use mathlib.Core.List.{List, ◌++◌}
 use Prim.Native.Nat.{ℕ, ◌+◌, ◌-◌, ◌<◌, ◌≤◌}
 use native.Mathlib.Omega.{arith}
-use borrow.Author.Tests.{leb-true, le-leb, lt-leb}
-use lib.Dec.{leb}
+use borrow.Author.Tests.{le-leb, lt-leb}
 use lib.ListN.{length, take}
 use lib.Seq.{paste, length-paste, take-paste, take-length}
 use Rattle.output.specs.Text.{place_for, waits, Holds}
@@ -20,19 +18,7 @@ pub place_begins : (size at n r : ℕ) → size < at + n → r ≡ 0 → r ≡ p
 unfolding place_for
 place_begins size at n r l q = rw (lt-leb (at + n) size l) q
 
-module _ (size at n place : ℕ) (p : place ≡ place_for size at n) where
-  pub place-low : place ≤ size
-  unfolding place_for
-  place-low = rw p (go (leb (at + n) size) refl)
-    where
-      go : (b : Bool) → leb (at + n) size ≡ b → cond b at 0 ≤ size
-      go true e = omega (arith, leb-true (at + n) size e)
-      go false e = omega arith
-
-  pub place-room : n ≤ size - place → place + n ≤ size
-  place-room l = omega (arith, place-low)
-
-module _ (out text : List ℕ) (at place : ℕ) (p : place ≡ place_for (length out) at (length text)) where
+module _ (out text : List ℕ) (at place : ℕ) (low : place ≤ length out) (p : place ≡ place_for (length out) at (length text)) where
   -- the text is copied behind what waited before its place
   pub put_held :
       length text ≤ length out - place
@@ -40,10 +26,9 @@ module _ (out text : List ℕ) (at place : ℕ) (p : place ≡ place_for (length
       → Holds after (place + length text) (waits out at text)
   unfolding waits
   put_held l after q =
-      let low = place-low (length out) at (length text) place p in
-      let fits = place-room (length out) at (length text) place p l in
+      let fits : place + length text ≤ length out = omega arith in
       record {
-        room = omega (arith, fits, ap length q, length-paste out place text (length text) fits (omega arith));
+        room = omega (arith, ap length q, length-paste out place text (length text) fits (omega arith));
         is = rw (q, ← p, le-leb (length text) (length out - place) l)
             (take-paste out place text (length text) low (omega arith) ∙ ap (λ (t : List ℕ). take place out ++ t) (take-length text));
       }

@@ -3,8 +3,7 @@
 // contract can speak of what was written out; these say what waits.
 #![tactic(auto)]
 
-ghost use Rattle.std.specs.Prelude.{◌≡◌, [], ◌∷◌, ◌+◌, ◌≤◌, ◌<◌, length};
-ghost use Rattle.std.proofs.Math.Seq.{paste};
+ghost use Rattle.std.specs.Prelude.{◌≡◌, [], ◌∷◌, ◌≤◌, ◌<◌, length};
 ghost use Rattle.io.specs.Digits.{hex_digit_ascii};
 ghost use Rattle.output.specs.Text.{place_for, waits, Holds, hex_of, Numbered};
 
@@ -28,27 +27,15 @@ pub fn flush(out: &[u8], at: usize) -> usize
 }
 
 // A place with room for n bytes: behind what waits, or 0, once that is written out.
+#[tactic(auto, using(crate::proofs::Placing::place_behind, crate::proofs::Placing::place_begins))]
 fn room_for(out: &[u8], at: usize, n: usize) -> usize
-    ensures { result ≡ place_for (length out.now) at n }
+    ensures low { result ≤ length out.now }
+    ensures place { result ≡ place_for (length out.now) at n }
 {
-    if at <= out.len() {
-        if n <= out.len() - at {
-            return at;
-        }
+    if at <= out.len() && n <= out.len() - at {
+        return at;
     }
     flush(out, at)
-}
-
-// Copies the text into the buffer from place at on.
-fn copy(out: &mut [u8], at: usize, text: &[u8])
-    requires { at + length text.now ≤ length out.old }
-    ensures { out.new ≡ paste out.old at text.now (length text.now) }
-{
-    let mut i = 0;
-    while i < text.len() {
-        out[at + i] = text[i];
-        i += 1;
-    }
 }
 
 // Prints a text of any length. One that the whole buffer cannot hold is written out at once.
@@ -57,7 +44,7 @@ pub fn put(out: &mut [u8], at: usize, text: &[u8]) -> usize
 {
     let place = room_for(out, at, text.len());
     if text.len() <= out.len() - place {
-        copy(out, place, text);
+        out[place..place + text.len()].copy_from_slice(text);
         return place + text.len();
     }
     io::write_all(STDOUT, text);

@@ -3,14 +3,11 @@
 // undefined and end.
 #![tactic(auto)]
 
-use archive::{Header, ReadAnswer, WriteAnswer};
-use edition::{Aim, Change, Edition, Entry, Measure, Memory, Refusal, Search, Swap, Verdict};
+use archive::Header;
+use edition::{Aim, Change, Edition, Entry, Measure, Memory, Refusal, Search, Swap};
 use forward::{Applies, Ask};
-use map::MapAnswer;
-use network::Link;
-use sound::Checked;
-use table::EntryAnswer;
-use tree::{Answer, Climb};
+use network::{Link, Network};
+use tree::Climb;
 
 // A search by tie rule 1, under which more is called than under rule 0.
 fn nearer(root: u16, depth: u16) -> Search {
@@ -18,6 +15,15 @@ fn nearer(root: u16, depth: u16) -> Search {
         root,
         depth,
         rule: Memory::NEARER,
+    }
+}
+
+// A network in lent rows, with a search by that rule.
+fn lent<'l, 'p>(links: &'l [u16], parents: &'p [u16], root: u16, depth: u16) -> Network<'l, 'p> {
+    Network {
+        links,
+        parents,
+        search: nearer(root, depth),
     }
 }
 
@@ -33,18 +39,18 @@ fn refused(refusal: Refusal) -> u64 {
 }
 
 // A verdict as a number.
-fn said(verdict: Verdict) -> u64 {
+fn said(verdict: Result<(), Refusal>) -> u64 {
     match verdict {
-        Verdict::Taken => 0,
-        Verdict::Refused(refusal) => refused(refusal),
+        Ok(()) => 0,
+        Err(refusal) => refused(refusal),
     }
 }
 
 // An answer as a number.
-fn answered(answer: Answer) -> u64 {
+fn answered(answer: Result<u64, Refusal>) -> u64 {
     match answer {
-        Answer::Is(number) => number,
-        Answer::Not(refusal) => refused(refusal),
+        Ok(number) => number,
+        Err(refusal) => refused(refusal),
     }
 }
 
@@ -104,7 +110,7 @@ pub extern "C" fn painted_check_parents(
     root: u16,
     depth: u16,
 ) -> u64 {
-    said(network::check_parents(links, parents, nearer(root, depth)))
+    said(network::check_parents(lent(links, parents, root, depth)))
 }
 
 #[unsafe(no_mangle)]
@@ -131,7 +137,7 @@ pub extern "C" fn painted_up(
     depth: u16,
     u: usize,
 ) -> u64 {
-    tree::up(links, parents, nearer(root, depth), u) as u64
+    tree::up(lent(links, parents, root, depth), u) as u64
 }
 
 #[unsafe(no_mangle)]
@@ -142,7 +148,7 @@ pub extern "C" fn painted_rise(
     depth: u16,
     u: usize,
 ) -> u64 {
-    tree::rise(links, parents, nearer(root, depth), u) as u64
+    tree::rise(lent(links, parents, root, depth), u) as u64
 }
 
 #[unsafe(no_mangle)]
@@ -153,7 +159,7 @@ pub extern "C" fn painted_step(
     depth: u16,
     u: usize,
 ) -> u64 {
-    let climb = Climb::begin(u).step(links, parents, nearer(root, depth));
+    let climb = Climb::begin(u).step(lent(links, parents, root, depth));
     both(both(climb.node as u64, climb.hops as u64), climb.dist)
 }
 
@@ -165,11 +171,7 @@ pub extern "C" fn painted_has_route(
     depth: u16,
     u: usize,
 ) -> u64 {
-    if tree::has_route(links, parents, nearer(root, depth), u) {
-        1
-    } else {
-        0
-    }
+    tree::has_route(lent(links, parents, root, depth), u) as u64
 }
 
 #[unsafe(no_mangle)]
@@ -180,7 +182,7 @@ pub extern "C" fn painted_distances(
     depth: u16,
     row: &mut [u64],
 ) -> u64 {
-    said(tree::distances(links, parents, nearer(root, depth), row))
+    said(tree::distances(lent(links, parents, root, depth), row))
 }
 
 #[unsafe(no_mangle)]
@@ -191,7 +193,7 @@ pub extern "C" fn painted_check_way(
     depth: u16,
     u: usize,
 ) -> u64 {
-    said(tree::check_way(links, parents, nearer(root, depth), u))
+    said(tree::check_way(lent(links, parents, root, depth), u))
 }
 
 #[unsafe(no_mangle)]
@@ -203,7 +205,7 @@ pub extern "C" fn painted_route(
     u: usize,
     row: &mut [usize],
 ) -> u64 {
-    answered(tree::route(links, parents, nearer(root, depth), u, row))
+    answered(tree::route(lent(links, parents, root, depth), u, row))
 }
 
 #[unsafe(no_mangle)]
@@ -215,7 +217,7 @@ pub extern "C" fn painted_meet_of(
     u: usize,
     z: usize,
 ) -> u64 {
-    answered(tree::meet_of(links, parents, nearer(root, depth), u, z))
+    answered(tree::meet_of(lent(links, parents, root, depth), u, z))
 }
 
 #[unsafe(no_mangle)]
@@ -227,7 +229,7 @@ pub extern "C" fn painted_tree_distance(
     u: usize,
     z: usize,
 ) -> u64 {
-    answered(tree::tree_distance(links, parents, nearer(root, depth), u, z))
+    answered(tree::tree_distance(lent(links, parents, root, depth), u, z))
 }
 
 #[unsafe(no_mangle)]
@@ -297,7 +299,7 @@ pub extern "C" fn painted_survey(
     depth: u16,
     row: &mut [u64],
 ) -> u64 {
-    said(survey::distances(links, parents, nearer(root, depth), row))
+    said(survey::distances(lent(links, parents, root, depth), row))
 }
 
 #[unsafe(no_mangle)]
@@ -308,7 +310,7 @@ pub extern "C" fn painted_fill(
     depth: u16,
     survey: &mut [u64],
 ) -> u64 {
-    said(survey::fill(links, parents, nearer(root, depth), survey))
+    said(survey::fill(lent(links, parents, root, depth), survey))
 }
 
 #[unsafe(no_mangle)]
@@ -319,7 +321,7 @@ pub extern "C" fn painted_survey_network(
     depth: u16,
     survey: &mut [u64],
 ) -> u64 {
-    said(sound::survey_network(links, parents, nearer(root, depth), survey))
+    said(sound::survey_network(lent(links, parents, root, depth), survey))
 }
 
 #[unsafe(no_mangle)]
@@ -329,9 +331,9 @@ pub extern "C" fn painted_check_network(
     root: u16,
     depth: u16,
 ) -> u64 {
-    match sound::check_network(links, parents, nearer(root, depth)) {
-        Checked::Sound(sizes) => both(sizes.nodes as u64, sizes.links as u64),
-        Checked::Unsound(refusal) => refused(refusal),
+    match sound::check_network(lent(links, parents, root, depth)) {
+        Ok(sizes) => both(sizes.nodes as u64, sizes.links as u64),
+        Err(refusal) => refused(refusal),
     }
 }
 
@@ -343,7 +345,7 @@ pub extern "C" fn painted_check_table(
     depth: u16,
     entries: &[u64],
 ) -> u64 {
-    said(table::check_table(links, parents, nearer(root, depth), entries))
+    said(table::check_table(lent(links, parents, root, depth), entries))
 }
 
 #[unsafe(no_mangle)]
@@ -355,7 +357,7 @@ pub extern "C" fn painted_refresh(
     marks: &[u64],
     entries: &mut [u64],
 ) -> u64 {
-    said(table::refresh(links, parents, nearer(root, depth), marks, entries))
+    said(table::refresh(lent(links, parents, root, depth), marks, entries))
 }
 
 #[unsafe(no_mangle)]
@@ -366,7 +368,7 @@ pub extern "C" fn painted_table(
     depth: u16,
     entries: &mut [u64],
 ) -> u64 {
-    said(table::table(links, parents, nearer(root, depth), entries))
+    said(table::table(lent(links, parents, root, depth), entries))
 }
 
 #[unsafe(no_mangle)]
@@ -377,7 +379,7 @@ pub extern "C" fn painted_check_entry(
     depth: u16,
     x: usize,
 ) -> u64 {
-    said(table::check_entry(links, parents, nearer(root, depth), x))
+    said(table::check_entry(lent(links, parents, root, depth), x))
 }
 
 #[unsafe(no_mangle)]
@@ -388,9 +390,9 @@ pub extern "C" fn painted_entry_of(
     depth: u16,
     x: usize,
 ) -> u64 {
-    match table::entry_of(links, parents, nearer(root, depth), x) {
-        EntryAnswer::Is(entry) => entered(entry),
-        EntryAnswer::Not(refusal) => refused(refusal),
+    match table::entry_of(lent(links, parents, root, depth), x) {
+        Ok(entry) => entered(entry),
+        Err(refusal) => refused(refusal),
     }
 }
 
@@ -414,8 +416,8 @@ pub extern "C" fn painted_write(
     file: &mut [u8],
 ) -> u64 {
     match archive::write(links, parents, Aim { root, depth }, file) {
-        WriteAnswer::Is(bytes) => bytes as u64,
-        WriteAnswer::Not(refusal) => refused(refusal),
+        Ok(bytes) => bytes as u64,
+        Err(refusal) => refused(refusal),
     }
 }
 
@@ -437,8 +439,8 @@ pub extern "C" fn painted_read(
     entries: &mut [u64],
 ) -> u64 {
     match archive::read(file, links, parents, entries) {
-        ReadAnswer::Is(head) => headed(head),
-        ReadAnswer::Not(refusal) => refused(refusal),
+        Ok(head) => headed(head),
+        Err(refusal) => refused(refusal),
     }
 }
 
@@ -454,7 +456,7 @@ pub extern "C" fn painted_check_change(
     length: u16,
 ) -> u64 {
     let change = Change { link, mark, length };
-    said(change::check_change(links, parents, nearer(root, depth), entries, change))
+    said(change::check_change(lent(links, parents, root, depth), entries, change))
 }
 
 #[unsafe(no_mangle)]
@@ -480,9 +482,9 @@ pub extern "C" fn painted_unprotected_map(
     depth: u16,
     words: &mut [u64],
 ) -> u64 {
-    match map::unprotected_map(links, parents, nearer(root, depth), words) {
-        MapAnswer::Is(told) => both(told.count as u64, told.lowest as u64),
-        MapAnswer::Not(refusal) => refused(refusal),
+    match map::unprotected_map(lent(links, parents, root, depth), words) {
+        Ok(told) => both(told.count as u64, told.lowest as u64),
+        Err(refusal) => refused(refusal),
     }
 }
 
@@ -502,10 +504,9 @@ pub extern "C" fn painted_forward_fill(
         failed,
         measure: Measure::Max,
     };
-    match forward::fill(links, parents, nearer(root, depth), ask, ordinary, detour) {
-        Applies::Ordinary(way) => both(way.nodes as u64, way.length),
-        Applies::Detour(way) => both(way.nodes as u64, way.length),
-        Applies::Neither(refusal) => refused(refusal),
+    match forward::fill(lent(links, parents, root, depth), ask, ordinary, detour) {
+        Ok(Applies::Ordinary(way) | Applies::Detour(way)) => both(way.nodes as u64, way.length),
+        Err(refusal) => refused(refusal),
     }
 }
 
@@ -528,9 +529,7 @@ pub extern "C" fn painted_forward(
     let mut number = 0;
     let mut place = 0;
     let part = forward::forward(
-        links,
-        parents,
-        nearer(root, depth),
+        lent(links, parents, root, depth),
         ask,
         ordinary,
         detour,

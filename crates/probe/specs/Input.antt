@@ -1,9 +1,7 @@
 -- What the bytes of a case say. Assumes nothing.
-use Rattle.std.specs.Prelude.{Bool, cond, List, ◌++◌, ℕ, ◌+◌, ◌*◌, drop}
+use Rattle.std.specs.Prelude.{Bool, cond, None, Option, Some, List, ◌++◌, ℕ, ◌+◌, ◌*◌, drop}
 use Rattle.test_words.specs.Words.{word_in, words_in}
 use Rattle.probe.specs.declared.input.Head.{Head}
-use Rattle.probe.specs.declared.input.Heading.{Heading}
-use Rattle.probe.specs.declared.input.Heading.TheVariants.{Is, End}
 
 -- Words i and i + 1 as one number, the high word first.
 unfoldable pub long_in : List ℕ → ℕ → ℕ
@@ -25,10 +23,10 @@ head_in raw =
       c = word_in raw 10;
     }
 
--- What a head is read to be: the head that the bytes are, or the end of the input.
-pub data HeadRead (raw : List ℕ) : Heading → Type 0 where
-  is_head : HeadRead raw (Is (head_in raw))
-  is-end : HeadRead raw End
+-- What a head is read to be: the head that the bytes are, or none at the end of the input.
+pub data HeadRead (raw : List ℕ) : Option Head → Type 0 where
+  is_head : HeadRead raw (Some (head_in raw))
+  is_end : HeadRead raw None
 
 -- A row after n words were asked for: with the words of the bytes at its beginning where they came, as it was where not.
 unfoldable pub row_read : Bool → List ℕ → ℕ → List ℕ → List ℕ

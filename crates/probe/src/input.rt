@@ -24,13 +24,6 @@ pub struct Head {
     pub c: u16,
 }
 
-// A head, or the end of the input.
-#[derive(Clone, Copy)]
-pub enum Heading {
-    Is(Head),
-    End,
-}
-
 // Two words as one number, the high word first.
 fn long(high: u16, low: u16) -> usize
     ensures { result ≡ high * 65536 + low }
@@ -66,20 +59,18 @@ fn head_of(raw: &[u8]) -> Head
 
 // Reads n bytes to the beginning of the row. False where the input ends first or the row is too short.
 fn read_bytes(raw: &mut [u8], n: usize) -> bool {
-    if raw.len() < n {
-        return false;
-    }
-    io::read_full(output::STDIN, &mut raw[0..n]) == n
+    n <= raw.len() && io::read_full(output::STDIN, &mut raw[..n]) == n
 }
 
-// Reads the head of the next case, by way of raw bytes.
-pub fn read_head(raw: &mut [u8]) -> Heading
+// Reads the head of the next case, by way of raw bytes. None at the end of the input.
+#[tactic(auto, using(crate::specs::Input::is_head, crate::specs::Input::is_end))]
+pub fn read_head(raw: &mut [u8]) -> Option<Head>
     ensures { HeadRead raw.new result }
 {
     if !read_bytes(raw, 2 * HEAD) {
-        return Heading::End;
+        return None;
     }
-    Heading::Is(head_of(raw))
+    Some(head_of(raw))
 }
 
 // Whether one of the three rows that op 7 lends is over its limit.
@@ -87,13 +78,7 @@ pub fn read_head(raw: &mut [u8]) -> Heading
 fn is_over_rows(head: Head) -> bool
     ensures { result ≡ over_rows head }
 {
-    if LINKS < head.a as usize {
-        return true;
-    }
-    if PARENTS < head.b as usize {
-        return true;
-    }
-    ROOM < head.c as usize
+    LINKS < head.a as usize || PARENTS < head.b as usize || ROOM < head.c as usize
 }
 
 // Whether one of the two rows that op 9 lends is over its limit.
@@ -101,10 +86,7 @@ fn is_over_rows(head: Head) -> bool
 fn is_over_routes(head: Head) -> bool
     ensures { result ≡ over_routes head }
 {
-    if ROUTE < head.ordinary as usize {
-        return true;
-    }
-    ROUTE < head.detour as usize
+    ROUTE < head.ordinary as usize || ROUTE < head.detour as usize
 }
 
 // Whether what words 4 and 5 lend is over its limit: the two rows of op 9, the room of any other.
@@ -132,19 +114,10 @@ fn most_rest(op: u16) -> usize
 pub fn is_over(head: Head) -> bool
     ensures { result ≡ is_over head }
 {
-    if PARENTS < head.parents {
-        return true;
-    }
-    if is_over_room(head) {
-        return true;
-    }
-    if most_rest(head.op) < head.rest {
-        return true;
-    }
-    if head.op != ops::READ {
-        return false;
-    }
-    is_over_rows(head)
+    PARENTS < head.parents
+        || is_over_room(head)
+        || most_rest(head.op) < head.rest
+        || (head.op == ops::READ && is_over_rows(head))
 }
 
 // Reads n words to the beginning of the row, by way of raw bytes. False, with the row as it was, where the input ends first
@@ -153,21 +126,16 @@ pub fn is_over(head: Head) -> bool
 fn read_words(raw: &mut [u8], row: &mut [u16], n: usize) -> bool
     ensures { row.new ≡ row_read result raw.new n row.old }
 {
-    if row.len() < n {
+    if row.len() < n || raw.len() / 2 < n || !read_bytes(raw, 2 * n) {
         return false;
     }
-    if raw.len() / 2 < n {
-        return false;
-    }
-    if !read_bytes(raw, 2 * n) {
-        return false;
-    }
-    test_words::decode(raw, &mut row[0..n]);
+    test_words::decode(raw, &mut row[..n]);
     true
 }
 
 // Reads what follows the head: the parents, then the link numbers or the bytes. False where the input ends first.
 // What lies behind them in the two rows stays.
+#[tactic(auto, using(crate::proofs::Behind::behind_read))]
 pub fn read_rows(head: Head, links: &mut [u16], parents: &mut [u16], bytes: &mut [u8]) -> bool
     ensures { (drop head.parents parents.new ≡ drop head.parents parents.old)
         × (drop head.rest links.new ≡ drop head.rest links.old) }

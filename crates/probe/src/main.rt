@@ -6,19 +6,13 @@ mod input;
 mod limits;
 mod ops;
 
-use input::{Head, Heading};
+use input::Head;
 use limits::{CASES, OUT};
 use probe_rows::limits::{BYTES, LINKS, PARENTS};
+use std::ops::ControlFlow;
 
-// Whether another case follows, and how much waits to be printed.
-#[derive(Clone, Copy)]
-enum Next {
-    On(usize),
-    Over(usize),
-}
-
-// Reads the rest of a case and prints what it answers. An op that is not in the table is told before the limits; an input that
-// ends inside a case prints nothing for it.
+// Reads the rest of a case and prints what it answers. How much then waits to be printed, and whether the program goes on or ends. An
+// op that is not in the table is told before the limits; an input that ends inside a case prints nothing for it.
 fn answer_case(
     head: Head,
     links: &mut [u16],
@@ -26,17 +20,17 @@ fn answer_case(
     bytes: &mut [u8],
     out: &mut [u8],
     at: usize,
-) -> Next {
+) -> ControlFlow<usize, usize> {
     if !ops::is_op(head.op) {
-        return Next::Over(output::put(out, at, b"unknown\n"));
+        return ControlFlow::Break(output::put(out, at, b"unknown\n"));
     }
     if input::is_over(head) {
-        return Next::Over(output::put(out, at, b"too long\n"));
+        return ControlFlow::Break(output::put(out, at, b"too long\n"));
     }
     if !input::read_rows(head, links, parents, bytes) {
-        return Next::Over(at);
+        return ControlFlow::Break(at);
     }
-    Next::On(ops::answer(head, links, parents, bytes, out, at))
+    ControlFlow::Continue(ops::answer(head, links, parents, bytes, out, at))
 }
 
 // Reads the next case and prints what it answers.
@@ -46,27 +40,24 @@ fn next_case(
     bytes: &mut [u8],
     out: &mut [u8],
     at: usize,
-) -> Next {
-    let heading = input::read_head(bytes);
-    let Heading::Is(head) = heading else {
-        return Next::Over(at);
-    };
-    answer_case(head, links, parents, bytes, out, at)
+) -> ControlFlow<usize, usize> {
+    match input::read_head(bytes) {
+        Some(head) => answer_case(head, links, parents, bytes, out, at),
+        None => ControlFlow::Break(at),
+    }
 }
 
 // Reads cases until one ends the program, and prints what they answer. It ends after `CASES` of them too.
 fn run(links: &mut [u16], parents: &mut [u16], bytes: &mut [u8], out: &mut [u8]) {
     let mut at = 0;
-    let mut left = CASES;
-    while 0 < left {
+    for _ in 0..CASES {
         match next_case(links, parents, bytes, out, at) {
-            Next::On(waits) => at = waits,
-            Next::Over(waits) => {
-                output::flush(out, waits);
-                return;
+            ControlFlow::Continue(waits) => at = waits,
+            ControlFlow::Break(waits) => {
+                at = waits;
+                break;
             }
         }
-        left -= 1;
     }
     output::flush(out, at);
 }

@@ -1,11 +1,12 @@
 // The table of ops. An op is one function over rows and numbers of the head, and answers how much waits to be printed. It is
-// added by its range in `is_op` and its call in `answer`.
+// added by its range in `is_op` and its call in `answer_network` or `answer_bytes`.
 ghost use Rattle.std.specs.Prelude.{◌≡◌, ◌≤◌, length};
 ghost use Rattle.probe.specs.Limits.{is_op, takes_bytes};
 
 use crate::input::Head;
 use edition::{Change, Measure};
 use forward::Ask;
+use network::Network;
 use probe_files::{blocks, files, reading};
 use probe_network::{changes, checking, forwards, maps, routes, single, tables};
 
@@ -43,16 +44,7 @@ pub const NODE: u16 = 105;
 pub fn is_op(op: u16) -> bool
     ensures { result ≡ is_op op }
 {
-    if op < CHECK {
-        return false;
-    }
-    if op <= FORWARD {
-        return true;
-    }
-    if op < ROUTE {
-        return false;
-    }
-    op <= NODE
+    matches!(op, CHECK..=FORWARD | ROUTE..=NODE)
 }
 
 // Whether bytes follow the parents, not link numbers.
@@ -60,10 +52,7 @@ pub fn is_op(op: u16) -> bool
 pub fn takes_bytes(op: u16) -> bool
     ensures { result ≡ takes_bytes op }
 {
-    if op == READ {
-        return true;
-    }
-    op == PAYLOAD
+    matches!(op, READ | PAYLOAD)
 }
 
 // The change that a head names: of link a to mark b and length c.
@@ -93,70 +82,24 @@ fn ask_of(head: Head) -> Ask {
     }
 }
 
-// Prints what an op on the tree or on one node answers.
-fn answer_own(head: Head, links: &[u16], parents: &[u16], out: &mut [u8], at: usize) -> usize
-    ensures { result ≤ length out.new }
-{
-    let op = head.op;
-    let search = head.search;
-    if op == ROUTE {
-        return routes::route(links, parents, search, head.a, head.room, out, at);
-    }
-    if op == DISTANCE {
-        return routes::distance(links, parents, search, head.a, head.b, out, at);
-    }
-    if op == MEET {
-        return routes::meet(links, parents, search, head.a, head.b, out, at);
-    }
-    if op == ENTRY {
-        return single::entry(links, parents, search, head.a, out, at);
-    }
-    single::node(links, parents, search, head.a, out, at)
-}
-
 // Prints what an op on a network answers.
-fn answer_network(head: Head, links: &[u16], parents: &[u16], out: &mut [u8], at: usize) -> usize
+fn answer_network(head: Head, net: Network, out: &mut [u8], at: usize) -> usize
     ensures { result ≤ length out.new }
 {
-    let op = head.op;
-    let search = head.search;
-    if FORWARD < op {
-        return answer_own(head, links, parents, out, at);
+    match head.op {
+        CHECK => checking::check(net, out, at),
+        TABLE => tables::table(net, head.room, out, at),
+        MAP => maps::map(net, head.room, out, at),
+        CHANGE => changes::change(net, change_of(head), true, head.room, out, at),
+        CHANGE_UNFILLED => changes::change(net, change_of(head), false, head.room, out, at),
+        WRITE => files::write(net, head.room, out, at),
+        FORWARD => forwards::forward(net, ask_of(head), head.ordinary, head.detour, out, at),
+        ROUTE => routes::route(net, head.a, head.room, out, at),
+        DISTANCE => routes::distance(net, head.a, head.b, out, at),
+        MEET => routes::meet(net, head.a, head.b, out, at),
+        ENTRY => single::entry(net, head.a, out, at),
+        _ => single::node(net, head.a, out, at),
     }
-    if op == FORWARD {
-        return forwards::forward(
-            links,
-            parents,
-            search,
-            ask_of(head),
-            head.ordinary,
-            head.detour,
-            out,
-            at,
-        );
-    }
-    if op == CHECK {
-        return checking::check(links, parents, search, out, at);
-    }
-    if op == TABLE {
-        return tables::table(links, parents, search, head.room, out, at);
-    }
-    if op == MAP {
-        return maps::map(links, parents, search, head.room, out, at);
-    }
-    if op == WRITE {
-        return files::write(links, parents, search, head.room, out, at);
-    }
-    changes::change(
-        links,
-        parents,
-        search,
-        change_of(head),
-        op == CHANGE,
-        head.room,
-        out,
-        at,
-    )
 }
 
 // Prints what an op on bytes answers.
@@ -180,18 +123,17 @@ pub fn answer(
 ) -> usize
     ensures { result ≤ length out.new }
 {
-    if !takes_bytes(head.op) {
-        return answer_network(
-            head,
-            rows::first(links, head.rest),
-            rows::first(parents, head.parents),
-            out,
-            at,
-        );
-    }
     let rest = head.rest;
+    if !takes_bytes(head.op) {
+        let net = Network {
+            links: rows::first(links, rest),
+            parents: rows::first(parents, head.parents),
+            search: head.search,
+        };
+        return answer_network(head, net, out, at);
+    }
     if bytes.len() < rest {
         return output::flush(out, at);
     }
-    answer_bytes(head, &bytes[0..rest], out, at)
+    answer_bytes(head, &bytes[..rest], out, at)
 }

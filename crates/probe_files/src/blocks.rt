@@ -1,7 +1,6 @@
 // Op 8: the block reader.
 ghost use Rattle.std.specs.Prelude.{◌≤◌, length};
 
-use edition::Verdict;
 use probe_rows::printing;
 
 // Prints what the block reader answers: the payload's bytes, or the refusal.
@@ -10,10 +9,10 @@ pub fn payload(kind: u16, number: u16, used: u16, block: &[u8], out: &mut [u8], 
 {
     let named = output::put(out, at, b"block ");
     match block::check_block(kind, number, used, block) {
-        Verdict::Taken => {
+        Ok(()) => {
             let told = output::put(out, named, b"ok\n");
             printing::put_bytes(out, told, block::payload(kind, number, used, block))
         }
-        Verdict::Refused(refusal) => output::put_refusal(out, named, refusal),
+        Err(refusal) => output::put_refusal(out, named, refusal),
     }
 }

@@ -1,8 +1,8 @@
 // Op 6: the file.
 ghost use Rattle.std.specs.Prelude.{◌≤◌, length};
 
-use archive::WriteAnswer;
-use edition::Search;
+use edition::Refusal;
+use network::Network;
 use probe_rows::limits::ROOM;
 use probe_rows::{printing, rest};
 
@@ -16,57 +16,37 @@ fn put_file(out: &mut [u8], at: usize, file: &[u8], size: usize) -> usize
     if file.len() < size {
         return ended;
     }
-    printing::put_bytes(out, ended, &file[0..size])
+    printing::put_bytes(out, ended, &file[..size])
 }
 
 // Prints what the writer answered, and what it left in the row.
-fn put_written(said: WriteAnswer, file: &[u8], out: &mut [u8], at: usize) -> usize
+fn put_written(said: Result<usize, Refusal>, file: &[u8], out: &mut [u8], at: usize) -> usize
     ensures { result ≤ length out.new }
 {
     let named = output::put(out, at, b"write ");
     match said {
-        WriteAnswer::Is(size) => {
+        Ok(size) => {
             let listed = put_file(out, named, file, size);
             rest::put(out, listed, rest::is_kept_bytes(file, size))
         }
-        WriteAnswer::Not(refusal) => {
+        Err(refusal) => {
             let listed = output::put_refusal(out, named, refusal);
             rest::put(out, listed, rest::is_kept_bytes(file, 0))
         }
     }
 }
 
-// Writes the file into the first bytes of a row.
-fn write_into(
-    links: &[u16],
-    parents: &[u16],
-    search: Search,
-    file: &mut [u8],
-    room: usize,
-    out: &mut [u8],
-    at: usize,
-) -> usize
+// Writes the file into the first bytes of a row, and prints the writer's answer and the bytes of the file, and whether the rest of the
+// lent room is kept.
+pub fn write(net: Network, room: usize, out: &mut [u8], at: usize) -> usize
     ensures { result ≤ length out.new }
 {
-    if file.len() < room {
+    if ROOM < room {
         return output::flush(out, at);
     }
+    let mut bytes = [0u8; ROOM];
+    let file = &mut bytes[..room];
     rest::fill_bytes(file);
-    let said = archive::write(links, parents, search.aim(), &mut file[0..room]);
-    put_written(said, &file[0..room], out, at)
-}
-
-// Prints the writer's answer and the bytes of the file, and whether the rest of the lent room is kept.
-pub fn write(
-    links: &[u16],
-    parents: &[u16],
-    search: Search,
-    room: usize,
-    out: &mut [u8],
-    at: usize,
-) -> usize
-    ensures { result ≤ length out.new }
-{
-    let mut file = [0u8; ROOM];
-    write_into(links, parents, search, &mut file, room, out, at)
+    let said = archive::write(net.links, net.parents, net.search.aim(), file);
+    put_written(said, file, out, at)
 }

@@ -2,7 +2,8 @@
 ghost use Rattle.std.specs.Prelude.{◌≤◌, length};
 ghost use Rattle.probe_rows.specs.Limits.{most_links};
 
-use archive::{Header, ReadAnswer};
+use archive::Header;
+use edition::Refusal;
 use probe_rows::limits::{LINKS, PARENTS, ROOM};
 use probe_rows::{printing, rest};
 
@@ -12,10 +13,8 @@ fn put_links(out: &mut [u8], at: usize, links: &[u16], m: usize) -> usize
     ensures { result ≤ length out.new }
 {
     let mut waits = at;
-    let mut e = 0;
-    while e < m {
+    for e in 0..m {
         waits = printing::put_link(out, waits, links, e as u16);
-        e += 1;
     }
     waits
 }
@@ -35,13 +34,9 @@ fn put_header(out: &mut [u8], at: usize, header: Header) -> usize
 
 // Whether what lies past the records of n nodes and m links is as it was filled, in all three rows.
 fn is_kept(links: &[u16], parents: &[u16], row: &[u64], n: usize, m: usize) -> bool {
-    if !rest::is_kept(network::past_links(links, m), 0) {
-        return false;
-    }
-    if !rest::is_kept(parents, n) {
-        return false;
-    }
-    rest::is_kept_wide(entries::past_entries(row, n), 0)
+    rest::is_kept(network::past_links(links, m), 0)
+        && rest::is_kept(parents, n)
+        && rest::is_kept_wide(entries::past_entries(row, n), 0)
 }
 
 // Prints what an accepted file holds. More links or nodes than a case can lend room for are not listed.
@@ -58,10 +53,7 @@ fn put_accepted(
     let n = header.nodes;
     let m = header.links;
     let told = put_header(out, at, header);
-    if PARENTS < n {
-        return told;
-    }
-    if LINKS < m {
+    if PARENTS < n || LINKS < m {
         return told;
     }
     let linked = put_links(out, told, links, m);
@@ -72,7 +64,7 @@ fn put_accepted(
 
 // Prints what the reader answered, and what it left in the rows.
 fn put_read(
-    said: ReadAnswer,
+    said: Result<Header, Refusal>,
     links: &[u16],
     parents: &[u16],
     row: &[u64],
@@ -83,57 +75,33 @@ fn put_read(
 {
     let named = output::put(out, at, b"read ");
     match said {
-        ReadAnswer::Is(header) => put_accepted(header, links, parents, row, out, named),
-        ReadAnswer::Not(refusal) => {
+        Ok(header) => put_accepted(header, links, parents, row, out, named),
+        Err(refusal) => {
             let told = output::put_refusal(out, named, refusal);
             rest::put(out, told, is_kept(links, parents, row, 0, 0))
         }
     }
 }
 
-// Reads the file into the three rows, which are filled beforehand, and prints what that answers and leaves.
-fn read_rows(
-    file: &[u8],
-    links: &mut [u16],
-    parents: &mut [u16],
-    row: &mut [u64],
-    out: &mut [u8],
-    at: usize,
-) -> usize
-    ensures { result ≤ length out.new }
-{
-    rest::fill(links);
-    rest::fill(parents);
-    rest::fill_wide(row);
-    let said = archive::read(file, links, parents, row);
-    put_read(said, links, parents, row, out, at)
-}
-
-// Reads the file into room for a link numbers, b parents and c entry numbers.
+// Reads the file into room for a link numbers, b parents and c entry numbers, and prints what that answers and leaves.
 pub fn read(file: &[u8], a: u16, b: u16, c: u16, out: &mut [u8], at: usize) -> usize
     ensures { result ≤ length out.new }
 {
     let links = a as usize;
     let parents = b as usize;
     let numbers = c as usize;
-    if LINKS < links {
-        return output::flush(out, at);
-    }
-    if PARENTS < parents {
-        return output::flush(out, at);
-    }
-    if ROOM < numbers {
+    if LINKS < links || PARENTS < parents || ROOM < numbers {
         return output::flush(out, at);
     }
     let mut first = [0u16; LINKS];
     let mut second = [0u16; PARENTS];
     let mut third = [0u64; ROOM];
-    read_rows(
-        file,
-        &mut first[0..links],
-        &mut second[0..parents],
-        &mut third[0..numbers],
-        out,
-        at,
-    )
+    let links = &mut first[..links];
+    let parents = &mut second[..parents];
+    let row = &mut third[..numbers];
+    rest::fill(links);
+    rest::fill(parents);
+    rest::fill_wide(row);
+    let said = archive::read(file, links, parents, row);
+    put_read(said, links, parents, row, out, at)
 }

@@ -1,36 +1,14 @@
 // Ops 4 and 5: the change of one link, on a table worked out first and on a row that is none.
 ghost use Rattle.std.specs.Prelude.{◌≤◌, length};
 
-use edition::{Change, Search, Verdict};
+use edition::{Change, Refusal};
+use network::Network;
 use probe_rows::limits::{LINKS, ROOM};
 use probe_rows::{printing, rest};
 
-// Copies a row to the beginning of another that is not shorter.
-fn copy_row(from: &[u16], to: &mut [u16])
-    requires { length from.now ≤ length to.old }
-{
-    let mut i = 0;
-    while i < from.len() {
-        to[i] = from[i];
-        i += 1;
-    }
-}
-
-// Whether two rows have the same numbers as far as the first goes.
-fn is_same(row: &[u16], copy: &[u16]) -> bool {
-    let mut i = 0;
-    while i < row.len() {
-        if rows::at(row, i, 0) != rows::at(copy, i, 0) {
-            return false;
-        }
-        i += 1;
-    }
-    true
-}
-
 // Puts the record of link e back as it was before the change, where that was taken.
-fn put_back(said: Verdict, links: &mut [u16], before: &[u16], e: u16) {
-    if let Verdict::Taken = said {
+fn put_back(said: Result<(), Refusal>, links: &mut [u16], before: &[u16], e: u16) {
+    if said.is_ok() {
         network::put_link(links, e as usize, network::link_at(before, e as usize));
     }
 }
@@ -46,20 +24,20 @@ fn put_kept(out: &mut [u8], at: usize, kept: bool) -> usize
 }
 
 // Prints `change ok` or `change refused N P`.
-fn put_said(out: &mut [u8], at: usize, said: Verdict) -> usize
+fn put_said(out: &mut [u8], at: usize, said: Result<(), Refusal>) -> usize
     ensures { result ≤ length out.new }
 {
     let named = output::put(out, at, b"change ");
     match said {
-        Verdict::Taken => output::put(out, named, b"ok\n"),
-        Verdict::Refused(refusal) => output::put_refusal(out, named, refusal),
+        Ok(()) => output::put(out, named, b"ok\n"),
+        Err(refusal) => output::put_refusal(out, named, refusal),
     }
 }
 
 // Prints what a change answered and left: the link's record, the first n entries, and whether all else is kept. All link
 // numbers are then as they were before, where all but that record are kept.
 fn put_left(
-    said: Verdict,
+    said: Result<(), Refusal>,
     links: &mut [u16],
     before: &[u16],
     e: u16,
@@ -74,7 +52,7 @@ fn put_left(
     let linked = printing::put_link(out, told, links, e);
     let listed = printing::put_entries(out, linked, row, n);
     put_back(said, links, before, e);
-    let kept = put_kept(out, listed, is_same(links, before));
+    let kept = put_kept(out, listed, *links == *before);
     rest::put(
         out,
         kept,
@@ -82,35 +60,10 @@ fn put_left(
     )
 }
 
-// The smaller of two numbers.
-fn smaller(a: usize, b: usize) -> usize {
-    if a < b { a } else { b }
-}
-
-// Makes the change on the rows as they are, and prints what it answers and leaves. `links` are as `before` had them.
+// Makes the change on the rows as they are, and prints what it answers and leaves. `links` are as the network has them.
 fn change_row(
-    before: &[u16],
+    net: Network,
     links: &mut [u16],
-    parents: &[u16],
-    search: Search,
-    change: Change,
-    row: &mut [u64],
-    out: &mut [u8],
-    at: usize,
-) -> usize
-    ensures { result ≤ length out.new }
-{
-    let said = change::change(links, parents, search, row, change);
-    let n = smaller(parents.len(), entries::entries_in(row));
-    put_left(said, links, before, change.link, row, n, out, at)
-}
-
-// The same on the table, which is worked out first; where that is refused, its refusal alone is printed.
-fn change_table(
-    before: &[u16],
-    links: &mut [u16],
-    parents: &[u16],
-    search: Search,
     wanted: Change,
     row: &mut [u64],
     out: &mut [u8],
@@ -118,69 +71,35 @@ fn change_table(
 ) -> usize
     ensures { result ≤ length out.new }
 {
-    let said = table::table(links, parents, search, row);
-    match said {
-        Verdict::Taken => change_row(before, links, parents, search, wanted, row, out, at),
-        Verdict::Refused(refusal) => {
+    let said = change::change(links, net.parents, net.search, row, wanted);
+    let n = net.parents.len().min(entries::entries_in(row));
+    put_left(said, links, net.links, wanted.link, row, n, out, at)
+}
+
+// The same on the table, which is worked out first; where that is refused, its refusal alone is printed.
+fn change_table(
+    net: Network,
+    links: &mut [u16],
+    wanted: Change,
+    row: &mut [u64],
+    out: &mut [u8],
+    at: usize,
+) -> usize
+    ensures { result ≤ length out.new }
+{
+    match table::table(net, row) {
+        Ok(()) => change_row(net, links, wanted, row, out, at),
+        Err(refusal) => {
             let named = output::put(out, at, b"table ");
             output::put_refusal(out, named, refusal)
         }
     }
 }
 
-// The change on a copy of the links at the beginning of a row, with room for the entries at the beginning of another.
-fn change_into(
-    before: &[u16],
-    links: &mut [u16],
-    parents: &[u16],
-    search: Search,
-    wanted: Change,
-    filled: bool,
-    row: &mut [u64],
-    room: usize,
-    out: &mut [u8],
-    at: usize,
-) -> usize
-    ensures { result ≤ length out.new }
-{
-    let m = before.len();
-    if links.len() < m {
-        return output::flush(out, at);
-    }
-    if row.len() < room {
-        return output::flush(out, at);
-    }
-    copy_row(before, links);
-    rest::fill_wide(row);
-    if filled {
-        return change_table(
-            before,
-            &mut links[0..m],
-            parents,
-            search,
-            wanted,
-            &mut row[0..room],
-            out,
-            at,
-        );
-    }
-    change_row(
-        before,
-        &mut links[0..m],
-        parents,
-        search,
-        wanted,
-        &mut row[0..room],
-        out,
-        at,
-    )
-}
-
-// Prints what the change answers and leaves, on a table worked out first (`filled`) or on a row that is none.
+// Prints what the change answers and leaves, on a table worked out first (`filled`) or on a row that is none. The links are copied,
+// and the change is made on the copy.
 pub fn change(
-    links: &[u16],
-    parents: &[u16],
-    search: Search,
+    net: Network,
     wanted: Change,
     filled: bool,
     room: usize,
@@ -189,9 +108,17 @@ pub fn change(
 ) -> usize
     ensures { result ≤ length out.new }
 {
+    if LINKS < net.links.len() || ROOM < room {
+        return output::flush(out, at);
+    }
     let mut own = [0u16; LINKS];
     let mut row = [0u64; ROOM];
-    change_into(
-        links, &mut own, parents, search, wanted, filled, &mut row, room, out, at,
-    )
+    let links = &mut own[..net.links.len()];
+    let entries = &mut row[..room];
+    links.copy_from_slice(net.links);
+    rest::fill_wide(entries);
+    if filled {
+        return change_table(net, links, wanted, entries, out, at);
+    }
+    change_row(net, links, wanted, entries, out, at)
 }

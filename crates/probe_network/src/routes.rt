@@ -1,37 +1,28 @@
 // Ops 101 to 103: the route of a node, the tree distance of two, and where their routes meet.
 ghost use Rattle.std.specs.Prelude.{◌≤◌, length};
 
-use edition::{Refusal, Search};
+use edition::Refusal;
+use network::Network;
 use probe_rows::limits::ROOM;
 use probe_rows::rest;
-use tree::Answer;
-
-// The number at place i of a row of nodes; 0 past its end.
-fn node_at(row: &[usize], i: usize) -> usize {
-    if i < row.len() { row[i] } else { 0 }
-}
 
 // How many nodes a route that begins a row has: up to the root, which ends it. All of the row where the root is not in it.
-fn nodes_of(row: &[usize], root: u16) -> usize {
-    let mut i = 0;
-    while i < row.len() {
-        if node_at(row, i) == root as usize {
-            return i + 1;
-        }
-        i += 1;
+fn nodes_of(row: &[usize], root: u16) -> usize
+    ensures { result ≤ length row.now }
+{
+    match row.iter().position(|u| *u == root as usize) {
+        Some(last) => last + 1,
+        None => row.len(),
     }
-    row.len()
 }
 
-// Prints the first n nodes of a row in one line.
-fn put_nodes(out: &mut [u8], at: usize, row: &[usize], n: usize) -> usize
+// Prints nodes in one line.
+fn put_nodes(out: &mut [u8], at: usize, nodes: &[usize]) -> usize
     ensures { result ≤ length out.new }
 {
     let mut waits = output::put(out, at, b"nodes");
-    let mut i = 0;
-    while i < n {
-        waits = output::put_field(out, waits, node_at(row, i) as u64);
-        i += 1;
+    for u in nodes {
+        waits = output::put_field(out, waits, *u as u64);
     }
     output::put_newline(out, waits)
 }
@@ -52,95 +43,56 @@ fn put_route(out: &mut [u8], at: usize, far: u64, root: u16, row: &[usize]) -> u
     let named = output::put(out, at, b"ok");
     let told = output::put_field(out, named, far);
     let ended = output::put_newline(out, told);
-    let listed = put_nodes(out, ended, row, n);
+    let listed = put_nodes(out, ended, &row[..n]);
     rest::put(out, listed, rest::is_kept_nodes(row, n))
 }
 
-// Writes the route into the first numbers of a row, and prints what that answers and leaves.
-fn route_into(
-    links: &[u16],
-    parents: &[u16],
-    search: Search,
-    u: u16,
-    row: &mut [usize],
-    room: usize,
-    out: &mut [u8],
-    at: usize,
-) -> usize
+// Writes the route of node u into the first numbers of a row, and prints it, its length, and whether the rest of the lent room is kept.
+pub fn route(net: Network, u: u16, room: usize, out: &mut [u8], at: usize) -> usize
     ensures { result ≤ length out.new }
 {
-    if row.len() < room {
+    if ROOM < room {
         return output::flush(out, at);
     }
+    let mut nodes = [0usize; ROOM];
+    let row = &mut nodes[..room];
     rest::fill_nodes(row);
-    let said = tree::route(links, parents, search, u as usize, &mut row[0..room]);
+    let said = tree::route(net, u as usize, row);
     let named = output::put(out, at, b"route ");
     match said {
-        Answer::Is(far) => put_route(out, named, far, search.root, &row[0..room]),
-        Answer::Not(refusal) => put_refused(out, named, refusal, &row[0..room]),
+        Ok(far) => put_route(out, named, far, net.search.root, row),
+        Err(refusal) => put_refused(out, named, refusal, row),
     }
-}
-
-// Prints the route of node u, its length, and whether the rest of the lent room is kept.
-pub fn route(
-    links: &[u16],
-    parents: &[u16],
-    search: Search,
-    u: u16,
-    room: usize,
-    out: &mut [u8],
-    at: usize,
-) -> usize
-    ensures { result ≤ length out.new }
-{
-    let mut row = [0usize; ROOM];
-    route_into(links, parents, search, u, &mut row, room, out, at)
 }
 
 // Prints `ok` and a number, or a refusal.
-fn put_answer(out: &mut [u8], at: usize, said: Answer) -> usize
+fn put_answer(out: &mut [u8], at: usize, said: Result<u64, Refusal>) -> usize
     ensures { result ≤ length out.new }
 {
     match said {
-        Answer::Is(number) => {
+        Ok(number) => {
             let named = output::put(out, at, b"ok");
             let told = output::put_field(out, named, number);
             output::put_newline(out, told)
         }
-        Answer::Not(refusal) => output::put_refusal(out, at, refusal),
+        Err(refusal) => output::put_refusal(out, at, refusal),
     }
 }
 
 // Prints the tree distance of two nodes.
-pub fn distance(
-    links: &[u16],
-    parents: &[u16],
-    search: Search,
-    u: u16,
-    z: u16,
-    out: &mut [u8],
-    at: usize,
-) -> usize
+pub fn distance(net: Network, u: u16, z: u16, out: &mut [u8], at: usize) -> usize
     ensures { result ≤ length out.new }
 {
     let named = output::put(out, at, b"distance ");
-    let said = tree::tree_distance(links, parents, search, u as usize, z as usize);
+    let said = tree::tree_distance(net, u as usize, z as usize);
     put_answer(out, named, said)
 }
 
 // Prints where the routes of two nodes first meet.
-pub fn meet(
-    links: &[u16],
-    parents: &[u16],
-    search: Search,
-    u: u16,
-    z: u16,
-    out: &mut [u8],
-    at: usize,
-) -> usize
+pub fn meet(net: Network, u: u16, z: u16, out: &mut [u8], at: usize) -> usize
     ensures { result ≤ length out.new }
 {
     let named = output::put(out, at, b"meet ");
-    let said = tree::meet_of(links, parents, search, u as usize, z as usize);
+    let said = tree::meet_of(net, u as usize, z as usize);
     put_answer(out, named, said)
 }

@@ -12,11 +12,8 @@ pub fn put_row(out: &mut [u8], at: usize, name: &[u8], row: &[u16]) -> usize
     ensures { result ≤ length out.new }
 {
     let mut waits = output::put(out, at, name);
-    let mut i = 0;
-    while i < row.len() {
-        let number = rows::at(row, i, 0);
-        waits = output::put_field(out, waits, number as u64);
-        i += 1;
+    for number in row {
+        waits = output::put_field(out, waits, *number as u64);
     }
     output::put_newline(out, waits)
 }
@@ -75,10 +72,8 @@ pub fn put_entries(out: &mut [u8], at: usize, row: &[u64], n: usize) -> usize
         return at;
     }
     let mut waits = at;
-    let mut u = 0;
-    while u < n {
+    for u in 0..n {
         waits = put_entry(out, waits, u, entries::entry_at(row, u));
-        u += 1;
     }
     waits
 }
@@ -102,10 +97,8 @@ pub fn put_bytes(out: &mut [u8], at: usize, file: &[u8]) -> usize
         return output::flush(out, at);
     }
     let mut waits = at;
-    let mut i = 0;
-    while i < file.len() {
-        waits = put_byte(out, waits, file[i], i);
-        i += 1;
+    for (i, byte) in file.iter().enumerate() {
+        waits = put_byte(out, waits, *byte, i);
     }
     if file.len() % LINE == 0 {
         return waits;

@@ -17,98 +17,78 @@ const BYTE: u8 = 165;
 pub fn fill(row: &mut [u16])
     ensures { row.new ≡ row_with (λ i. fill_mark) (length row.old) row.old }
 {
-    let mut i = 0;
-    while i < row.len() {
-        row[i] = NUMBER;
-        i += 1;
-    }
+    row.fill(NUMBER);
 }
 
 // Fills a row of entries or words.
 pub fn fill_wide(row: &mut [u64])
     ensures { row.new ≡ row_with (λ i. fill_mark) (length row.old) row.old }
 {
-    let mut i = 0;
-    while i < row.len() {
-        row[i] = WIDE;
-        i += 1;
-    }
+    row.fill(WIDE);
 }
 
 // Fills a row of nodes.
 pub fn fill_nodes(row: &mut [usize])
     ensures { row.new ≡ row_with (λ i. fill_mark) (length row.old) row.old }
 {
-    let mut i = 0;
-    while i < row.len() {
-        row[i] = NODE;
-        i += 1;
-    }
+    row.fill(NODE);
 }
 
 // Fills a row of bytes.
 pub fn fill_bytes(row: &mut [u8])
     ensures { row.new ≡ row_with (λ i. byte_mark) (length row.old) row.old }
 {
-    let mut i = 0;
-    while i < row.len() {
-        row[i] = BYTE;
-        i += 1;
-    }
+    row.fill(BYTE);
 }
 
 // Whether all of a row of links or parents from a place on is as it was filled.
+#[tactic(auto, using(crate::proofs::Keeping::keeps))]
 pub fn is_kept(row: &[u16], from: usize) -> bool
     ensures { result ≡ is_kept fill_mark row.now from }
 {
-    let mut i = from;
-    while i < row.len() {
+    for i in from..row.len() {
         if row[i] != NUMBER {
             return false;
         }
-        i += 1;
     }
     true
 }
 
 // Whether all of a row of entries or words from a place on is as it was filled.
+#[tactic(auto, using(crate::proofs::Keeping::keeps))]
 pub fn is_kept_wide(row: &[u64], from: usize) -> bool
     ensures { result ≡ is_kept fill_mark row.now from }
 {
-    let mut i = from;
-    while i < row.len() {
+    for i in from..row.len() {
         if row[i] != WIDE {
             return false;
         }
-        i += 1;
     }
     true
 }
 
 // Whether all of a row of nodes from a place on is as it was filled.
+#[tactic(auto, using(crate::proofs::Keeping::keeps))]
 pub fn is_kept_nodes(row: &[usize], from: usize) -> bool
     ensures { result ≡ is_kept fill_mark row.now from }
 {
-    let mut i = from;
-    while i < row.len() {
+    for i in from..row.len() {
         if row[i] != NODE {
             return false;
         }
-        i += 1;
     }
     true
 }
 
 // Whether all bytes from a place on are as they were filled.
+#[tactic(auto, using(crate::proofs::Keeping::keeps))]
 pub fn is_kept_bytes(row: &[u8], from: usize) -> bool
     ensures { result ≡ is_kept byte_mark row.now from }
 {
-    let mut i = from;
-    while i < row.len() {
+    for i in from..row.len() {
         if row[i] != BYTE {
             return false;
         }
-        i += 1;
     }
     true
 }

@@ -1,11 +1,9 @@
 -- Records put where there is room, and the parts of an entry as one. Assumes nothing.
-use mathlib.Core.Path.{◌≡◌, refl, sym, ◌∙◌}
+use mathlib.Core.Path.{◌≡◌, refl}
 use mathlib.Core.List.{List, ◌++◌, append_assoc}
-use Prim.Native.Nat.{ℕ, ◌+◌, ◌-◌, ◌<◌, ◌≤◌}
-use native.Mathlib.Omega.{arith}
+use Prim.Native.Nat.{ℕ, ◌+◌}
 use lib.Dec.{leb}
 use lib.ListN.{length, length-append}
-use borrow.Author.Tests.{le-leb, lt-leb, leb-true, leb-false}
 use mathlib.Core.Bool.{Bool, true, false}
 use lib.Seq.{sets}
 use Rattle.numbers.specs.Bytes.{bytes_of}
@@ -16,9 +14,6 @@ use Rattle.edition.specs.Stored.{header_bytes, link_bytes, entry_bytes}
 use Rattle.network.specs.declared.Link.{Link}
 use Rattle.record.specs.Record.{header_record, link_record, entry_record, record_put}
 
-pub with_room : (at size room : ℕ) (b : Bool) → b ≡ leb (at + size) room → b ≡ true → at + size ≤ room
-with_room at size room b is e = leb-true (at + size) room (sym is ∙ e)
-
 -- a record where there is room, and none where there is not
 module _ (at size : ℕ) (bytes row : List ℕ) (b : Bool) (is : b ≡ leb (at + size) (length row)) where
   pub no_room : b ≡ false → row ≡ record_put at size bytes row
@@ -28,16 +23,6 @@ module _ (at size : ℕ) (bytes row : List ℕ) (b : Bool) (is : b ≡ leb (at +
   pub put_is : b ≡ true → (after : List ℕ) → after ≡ sets row at bytes → after ≡ record_put at size bytes row
   unfolding record_put
   put_is e after q = rw (← is, e) q
-
-pub too_short_lem : (room at size : ℕ) → room < size → false ≡ leb (at + size) room
-too_short_lem room at size l = sym (lt-leb (at + size) room (omega arith))
-
-pub fits : (room at size : ℕ) → size ≤ room → leb at (room - size) ≡ leb (at + size) room
-fits room at size l = go (leb at (room - size)) refl
-  where
-    go : (b : Bool) → leb at (room - size) ≡ b → leb at (room - size) ≡ leb (at + size) room
-    go true e = e ∙ sym (le-leb (at + size) room (omega (arith, l, leb-true at (room - size) e)))
-    go false e = e ∙ sym (lt-leb (at + size) room (omega (arith, l, leb-false at (room - size) e)))
 
 -- the entry's three parts
 pub entry-joined :

@@ -45,14 +45,11 @@ fn put_costs(bytes: &mut [u8], at: usize, a: u64, b: u64, c: u64)
 fn has_room(bytes: &[u8], at: usize, size: usize) -> bool
     ensures { result ≡ leb (at + size) (length bytes.now) }
 {
-    if bytes.len() < size {
-        return false;
-    }
-    at <= bytes.len() - size
+    size <= bytes.len() && at <= bytes.len() - size
 }
 
 // Puts the header's record from a place on. Where it does not fit nothing is written; the same holds for the others.
-#[tactic(auto, unfolding(crate::specs::Record::header_record))]
+#[tactic(auto, using(crate::proofs::Putting::no_room, crate::proofs::Putting::put_is), unfolding(crate::specs::Record::header_record))]
 pub fn put_header(bytes: &mut [u8], at: usize, n: u16, m: u16, search: Search)
     ensures { bytes.new ≡ record_put at header_bytes (header_record n m search) bytes.old }
 {
@@ -70,7 +67,7 @@ pub fn put_header(bytes: &mut [u8], at: usize, n: u16, m: u16, search: Search)
 }
 
 // Puts a link's record.
-#[tactic(auto, unfolding(crate::specs::Record::link_record))]
+#[tactic(auto, using(crate::proofs::Putting::no_room, crate::proofs::Putting::put_is), unfolding(crate::specs::Record::link_record))]
 pub fn put_link(bytes: &mut [u8], at: usize, l: Link)
     ensures { bytes.new ≡ record_put at link_bytes (link_record l) bytes.old }
 {

@@ -1,5 +1,6 @@
 -- `best_to` finds the number that comes before all others that may stand, the lowest of those that nothing tells apart; there
 -- is only one such. `first_to` finds the lowest that passes. Assumes nothing.
+use Rattle.std.specs.Prelude.{None, Option, Some}
 use mathlib.Core.Path.{◌≡◌, refl, ap}
 use mathlib.Core.Bool.{Bool, true, false, cond, not, ◌&&◌, ◌||◌}
 use Prim.Native.Nat.{ℕ, zero, suc, ◌<◌}
@@ -7,8 +8,6 @@ use native.Mathlib.Nat.{not-suc-le-zero}
 use native.Mathlib.Omega.{arith}
 use lib.Dec.{ltb}
 use borrow.Author.Tests.{ltb-true, ltb-false}
-use Rattle.edition.specs.declared.Found.{Found}
-use Rattle.edition.specs.declared.Found.TheVariants.{Nothing, At}
 use Rattle.rows.specs.Count.{some_to}
 use Rattle.rows.specs.First.{first_to, or_here}
 use Rattle.rows.specs.Work.{beats, best_to}
@@ -22,9 +21,9 @@ pub record IsBest (may : ℕ → Bool) (before : ℕ → ℕ → Bool) (k b : �
   pub first : (j : ℕ) → j < b → may j ≡ true → before b j ≡ true
 
 -- what is found: nothing where nothing may stand, else the best
-pub data Best (may : ℕ → Bool) (before : ℕ → ℕ → Bool) (k : ℕ) : Found → Type 0 where
-  none : ((j : ℕ) → j < k → may j ≡ false) → Best may before k Nothing
-  some : {b : ℕ} → IsBest may before k b → Best may before k (At b)
+pub data Best (may : ℕ → Bool) (before : ℕ → ℕ → Bool) (k : ℕ) : Option ℕ → Type 0 where
+  none : ((j : ℕ) → j < k → may j ≡ false) → Best may before k None
+  some : {b : ℕ} → IsBest may before k b → Best may before k (Some b)
 
 -- a test that orders: of two at most one comes first, and what is not before the second is not before a third that the second is not before
 pub record Orders (before : ℕ → ℕ → Bool) : Type 0 where
@@ -37,8 +36,8 @@ irrefl o a false e = e
 
 module _ (may : ℕ → Bool) (before : ℕ → ℕ → Bool) where
   -- the best of the numbers below suc k, from the best of those below k
-  next : ℕ → Found → Found
-  next k o = cond (may k && beats before k o) (At k) o
+  next : ℕ → Option ℕ → Option ℕ
+  next k o = cond (may k && beats before k o) (Some k) o
 
   module _ (o : Orders before) where
     keep : (k b : ℕ) → IsBest may before k b → (may k ≡ true → before k b ≡ false) → IsBest may before (suc k) b
@@ -75,18 +74,18 @@ module _ (may : ℕ → Bool) (before : ℕ → ℕ → Bool) where
           first = λ j l p. over k b i h j l p (before k j) refl;
         }
 
-    step-none : (k : ℕ) → ((j : ℕ) → j < k → may j ≡ false) → (m : Bool) → may k ≡ m → Best may before (suc k) (next k Nothing)
+    step-none : (k : ℕ) → ((j : ℕ) → j < k → may j ≡ false) → (m : Bool) → may k ≡ m → Best may before (suc k) (next k None)
     unfolding next beats
     step-none k h true e = rw e (some (only k h e))
     step-none k h false e = rw e (none (lastly (λ j. may j ≡ false) k h e))
 
-    step_some : (k b : ℕ) → IsBest may before k b → (m : Bool) → may k ≡ m → (t : Bool) → before k b ≡ t → Best may before (suc k) (next k (At b))
+    step_some : (k b : ℕ) → IsBest may before k b → (m : Bool) → may k ≡ m → (t : Bool) → before k b ≡ t → Best may before (suc k) (next k (Some b))
     unfolding next beats
     step_some k b i true e true f = rw (e, f) (some (take k b i e f))
     step_some k b i true e false f = rw (e, f) (some (keep k b i (λ p. f)))
     step_some k b i false e t f = rw e (some (keep k b i (λ p. clash p e)))
 
-    step : (k : ℕ) {f : Found} → Best may before k f → Best may before (suc k) (next k f)
+    step : (k : ℕ) {f : Option ℕ} → Best may before k f → Best may before (suc k) (next k f)
     step k (none h) = step-none k h (may k) refl
     step k (some {b} i) = step_some k b i (may k) refl (before k b) refl
 
@@ -105,11 +104,11 @@ module _ (may : ℕ → Bool) (before : ℕ → ℕ → Bool) where
       go false e false f = omega (arith, ltb-false b c e, ltb-false c b f)
 
   -- what is found is below k and may stand, whatever comes before what
-  pub data Stands (k : ℕ) : Found → Type 0 where
-    nobody : Stands k Nothing
-    somebody : {b : ℕ} → b < k → may b ≡ true → Stands k (At b)
+  pub data Stands (k : ℕ) : Option ℕ → Type 0 where
+    nobody : Stands k None
+    somebody : {b : ℕ} → b < k → may b ≡ true → Stands k (Some b)
 
-  stands_more : (k : ℕ) {f : Found} → Stands k f → Stands (suc k) f
+  stands_more : (k : ℕ) {f : Option ℕ} → Stands k f → Stands (suc k) f
   stands_more k nobody = nobody
   stands_more k (somebody {b} l m) = somebody {b = b} (omega arith) m
 
@@ -126,7 +125,7 @@ module _ (may : ℕ → Bool) (before : ℕ → ℕ → Bool) where
 module _ (may may' : ℕ → Bool) (before before' : ℕ → ℕ → Bool) where
   beats_cong :
       (k : ℕ) (m : Bool)
-      → may k ≡ m → {f : Found} → Stands may before k f
+      → may k ≡ m → {f : Option ℕ} → Stands may before k f
       → ((b : ℕ) → b < k → may b ≡ true → may k ≡ true → before k b ≡ before' k b)
       → (may k && beats before k f) ≡ (may k && beats before' k f)
   unfolding beats
@@ -146,26 +145,26 @@ module _ (may may' : ℕ → Bool) (before before' : ℕ → ℕ → Bool) where
       rw (← ih, ← m k (omega arith), ← beats_cong k (may k) refl (stands may before k) (λ b l p q. o k b (omega arith) l q p))
 
 -- what `first_to` finds: nothing, or the lowest that passes
-pub data Lowest (p : ℕ → Bool) (k : ℕ) : Found → Type 0 where
-  nowhere : ((j : ℕ) → j < k → p j ≡ false) → Lowest p k Nothing
-  here : {e : ℕ} → e < k → p e ≡ true → ((j : ℕ) → j < e → p j ≡ false) → Lowest p k (At e)
+pub data Lowest (p : ℕ → Bool) (k : ℕ) : Option ℕ → Type 0 where
+  nowhere : ((j : ℕ) → j < k → p j ≡ false) → Lowest p k None
+  here : {e : ℕ} → e < k → p e ≡ true → ((j : ℕ) → j < e → p j ≡ false) → Lowest p k (Some e)
 
 pub first-is : (p : ℕ → Bool) (k : ℕ) → Lowest p k (first_to p k)
 unfolding first_to or_here
 first-is p zero = nowhere (λ j h. absurd (not-suc-le-zero h))
 first-is p (suc k) = go (first-is p k) (p k) refl
   where
-    go : {f : Found} → Lowest p k f → (b : Bool) → p k ≡ b → Lowest p (suc k) (or_here f b k)
+    go : {f : Option ℕ} → Lowest p k f → (b : Bool) → p k ≡ b → Lowest p (suc k) (or_here f b k)
     go (nowhere h) true e = here {e = k} (omega arith) e h
     go (nowhere h) false e = nowhere (lastly (λ j. p j ≡ false) k h e)
     go (here {e = i} l q h) b e = here {e = i} (omega arith) q h
 
 -- there is only one
-pub first_unique : (p : ℕ → Bool) (k : ℕ) {f g : Found} → Lowest p k f → Lowest p k g → f ≡ g
+pub first_unique : (p : ℕ → Bool) (k : ℕ) {f g : Option ℕ} → Lowest p k f → Lowest p k g → f ≡ g
 first_unique p k (nowhere h) (nowhere i) = refl
 first_unique p k (nowhere h) (here l e f) = clash e (h _ l)
 first_unique p k (here l e f) (nowhere h) = clash e (h _ l)
-first_unique p k (here {e = a} l e f) (here {e = b} m g h) = ap At (go (ltb a b) refl (ltb b a) refl)
+first_unique p k (here {e = a} l e f) (here {e = b} m g h) = ap Some (go (ltb a b) refl (ltb b a) refl)
   where
     go : (s : Bool) → ltb a b ≡ s → (t : Bool) → ltb b a ≡ t → a ≡ b
     go true i t j = clash e (h a (ltb-true a b i))
@@ -229,25 +228,25 @@ module _ (may : ℕ → Bool) (before : ℕ → ℕ → Bool) (k : ℕ) where
   unfolding beaten
   best-first o = first_unique _ k (first-is _ k) (go (best-is may before o k))
     where
-      go : {f : Found} → Best may before k f → Lowest (λ e. may e && not (some_to (λ f. may f && before f e) k)) k f
+      go : {f : Option ℕ} → Best may before k f → Lowest (λ e. may e && not (some_to (λ f. may f && before f e) k)) k f
       go (none h) = nowhere (λ j l. rw (h j l))
       go (some {b} i) = here {e = b} i.low (rw (i.ok, unbeaten i)) (λ j l. beaten_above i j l (may j) refl)
 
 -- something is found exactly where something may stand
-abbrev pub is_at : Found → Bool
-is_at Nothing = false
-is_at (At k) = true
+abbrev pub is_at : Option ℕ → Bool
+is_at None = false
+is_at (Some k) = true
 
-found_next : (may : ℕ → Bool) (before : ℕ → ℕ → Bool) (k : ℕ) (m : Bool) (f : Found) → (is_at f || m) ≡ is_at (cond (m && beats before k f) (At k) f)
+found_next : (may : ℕ → Bool) (before : ℕ → ℕ → Bool) (k : ℕ) (m : Bool) (f : Option ℕ) → (is_at f || m) ≡ is_at (cond (m && beats before k f) (Some k) f)
 unfolding beats
-found_next may before k true Nothing = refl
-found_next may before k true (At b) = go (before k b)
+found_next may before k true None = refl
+found_next may before k true (Some b) = go (before k b)
   where
-    go : (t : Bool) → true ≡ is_at (cond t (At k) (At b))
+    go : (t : Bool) → true ≡ is_at (cond t (Some k) (Some b))
     go true = refl
     go false = refl
-found_next may before k false Nothing = refl
-found_next may before k false (At b) = refl
+found_next may before k false None = refl
+found_next may before k false (Some b) = refl
 
 pub some_found : (may : ℕ → Bool) (before : ℕ → ℕ → Bool) (k : ℕ) → some_to may k ≡ is_at (best_to may before k)
 unfolding some_to best_to

@@ -2,6 +2,7 @@ pub mod Tests
 pub mod Ordering
 pub mod Best
 pub mod Seeking
+pub mod Passing
 pub mod Refusing
 pub mod Counting
 pub mod Places

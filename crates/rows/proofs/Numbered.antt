@@ -1,15 +1,12 @@
 -- Which of the refusal numbers a check can give. Assumes nothing.
+use Rattle.std.specs.Prelude.{Err, None, Ok, Option, Some}
 use mathlib.Core.Path.{◌≡◌, refl, sym, subst}
 use mathlib.Core.Bool.{Bool, true, false}
 use mathlib.Core.List.{List, [], ◌∷◌, ◌++◌}
 use Prim.Native.Nat.{ℕ, zero, suc}
-use Rattle.edition.specs.declared.Found.{Found}
-use Rattle.edition.specs.declared.Found.TheVariants.{Nothing, At}
 use Rattle.edition.specs.declared.Why.{Why}
 use Rattle.edition.specs.declared.Refusal.{Refusal}
-use Rattle.edition.specs.declared.Verdict.{Verdict}
-use Rattle.edition.specs.declared.Verdict.TheVariants.{Taken, Refused}
-use Rattle.edition.specs.Refusals.{number_of}
+use Rattle.edition.specs.Refusals.{Verdict, taken, number_of}
 use Rattle.rows.specs.First.{first_to, refused_at, refuse_at, refuse_if, firstly, verdict_to}
 use Rattle.rows.specs.Lists.{has}
 use Rattle.rows.proofs.Tests.{clash, or_right}
@@ -17,11 +14,11 @@ use Rattle.rows.proofs.Listed.{has-append}
 
 -- a verdict is taken, or refused with one of these numbers
 pub Gives : List ℕ → Verdict → Type 0
-Gives ns Taken = Unit {0}
-Gives ns (Refused r) = has (number_of r.why) ns ≡ true
+Gives ns (Ok _) = Unit {0}
+Gives ns (Err r) = has (number_of r.why) ns ≡ true
 
 module _ (ns : List ℕ) where
-  pub taken_gives : (v : Verdict) → v ≡ Taken → Gives ns v
+  pub taken_gives : (v : Verdict) → v ≡ taken → Gives ns v
   unfolding Gives
   taken_gives v q = subst (Gives ns) (sym q) tt
 
@@ -34,9 +31,9 @@ module _ (ns : List ℕ) where
   unfolding refuse_at refused_at Gives
   at_gives p k why h = go (first_to p k)
     where
-      go : (f : Found) → Gives ns (refused_at why f)
-      go Nothing = tt
-      go (At e) = h
+      go : (f : Option ℕ) → Gives ns (refused_at why f)
+      go None = tt
+      go (Some e) = h
 
   -- a list of checks
   pub none_gives : Gives ns (firstly [])
@@ -45,8 +42,8 @@ module _ (ns : List ℕ) where
 
   pub first_gives : (v : Verdict) (rest : List Verdict) → Gives ns v → Gives ns (firstly rest) → Gives ns (firstly (v ∷ rest))
   unfolding firstly
-  first_gives Taken rest p q = q
-  first_gives (Refused r) rest p q = p
+  first_gives (Ok _) rest p q = q
+  first_gives (Err r) rest p q = p
 
   pub to_gives : (f : ℕ → Verdict) → ((i : ℕ) → Gives ns (f i)) → (k : ℕ) → Gives ns (verdict_to f k)
   unfolding verdict_to Gives
@@ -56,26 +53,26 @@ module _ (ns : List ℕ) where
   -- among more numbers
   pub gives_left : (ms : List ℕ) (v : Verdict) → Gives ns v → Gives (ns ++ ms) v
   unfolding Gives
-  gives_left ms Taken h = tt
-  gives_left ms (Refused r) h = rw (has-append (number_of r.why) ns ms, h)
+  gives_left ms (Ok _) h = tt
+  gives_left ms (Err r) h = rw (has-append (number_of r.why) ns ms, h)
 
   pub gives_right : (ms : List ℕ) (v : Verdict) → Gives ns v → Gives (ms ++ ns) v
   unfolding Gives
-  gives_right ms Taken h = tt
-  gives_right ms (Refused r) h = rw (has-append (number_of r.why) ms ns) (or_right (has (number_of r.why) ms) (has (number_of r.why) ns) h)
+  gives_right ms (Ok _) h = tt
+  gives_right ms (Err r) h = rw (has-append (number_of r.why) ms ns) (or_right (has (number_of r.why) ms) (has (number_of r.why) ns) h)
 
   -- a check that cannot give the number of a refusal was taken
   pub passed :
       (v : Verdict) (rest : List Verdict) (r : Refusal)
-      → Gives ns v → has (number_of r.why) ns ≡ false → firstly (v ∷ rest) ≡ Refused r → (v ≡ Taken) × (firstly rest ≡ Refused r)
+      → Gives ns v → has (number_of r.why) ns ≡ false → firstly (v ∷ rest) ≡ Err r → (v ≡ taken) × (firstly rest ≡ Err r)
   unfolding firstly Gives
-  passed Taken rest r g n q = (refl, q)
-  passed (Refused s) rest r g n q = clash (subst (Gives ns) q g) n
+  passed (Ok _) rest r g n q = (refl, q)
+  passed (Err s) rest r g n q = clash (subst (Gives ns) q g) n
 
   -- where what stands behind a check cannot give the number of a refusal, the check gave it
   pub given_first :
       (v : Verdict) (rest : List Verdict) (r : Refusal)
-      → Gives ns (firstly rest) → has (number_of r.why) ns ≡ false → firstly (v ∷ rest) ≡ Refused r → v ≡ Refused r
+      → Gives ns (firstly rest) → has (number_of r.why) ns ≡ false → firstly (v ∷ rest) ≡ Err r → v ≡ Err r
   unfolding firstly Gives
-  given_first Taken rest r g n q = clash (subst (Gives ns) q g) n
-  given_first (Refused s) rest r g n q = q
+  given_first (Ok _) rest r g n q = clash (subst (Gives ns) q g) n
+  given_first (Err s) rest r g n q = q

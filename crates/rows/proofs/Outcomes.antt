@@ -1,11 +1,7 @@
 -- Two outcomes that a promise allows are equal: one theorem a public function, in the words of its contract. Assumes nothing.
-use Prim.Native.Nat.{ℕ}
-use mathlib.Core.List.{List}
-use Rattle.edition.specs.declared.Found.{Found}
+use Rattle.std.specs.Prelude.{ℕ, Bool, get_or, take, List, Option}
 use Rattle.edition.specs.declared.Why.{Why}
-use Rattle.rows.specs.First.{or_here, refuse_if, refused_at}
-use lib.ListN.{get_or, take}
-use mathlib.Core.Bool.{Bool}
+use Rattle.rows.specs.First.{refuse_if, refused_at}
 use Rattle.edition.proofs.Only.{One, one}
 
 -- `rows::at`
@@ -24,10 +20,6 @@ one_first row n = one _
 pub one_refuse_if : (bad : Bool) (why : Why) (place : ℕ) → One (refuse_if bad why place)
 one_refuse_if bad why place = one _
 
--- `rows::or_here`
-pub one_or_here : (found : Found) (passes : Bool) (place : ℕ) → One (or_here found passes place)
-one_or_here found passes place = one _
-
 -- `rows::refused_at`
-pub one_refused_at : (why : Why) (found : Found) → One (refused_at why found)
+pub one_refused_at : (why : Why) (found : Option ℕ) → One (refused_at why found)
 one_refused_at why found = one _

@@ -1,12 +1,11 @@
 -- The loop that looks for the first number that passes: what it keeps, and what it ends with. Every such loop cites this.
 -- Assumes nothing.
+use Rattle.std.specs.Prelude.{None, Option, Some}
 use mathlib.Core.Path.{◌≡◌, refl, sym, subst, ap, ◌∙◌}
 use mathlib.Core.Bool.{Bool, true, false}
 use Prim.Native.Nat.{ℕ, suc, ◌+◌, ◌<◌, ◌≤◌}
 use native.Mathlib.Numerals.{add-one}
 use native.Mathlib.Omega.{arith}
-use Rattle.edition.specs.declared.Found.{Found}
-use Rattle.edition.specs.declared.Found.TheVariants.{Nothing, At}
 use Rattle.rows.specs.First.{first_to, or_here}
 use Rattle.rows.proofs.Best.{Lowest, nowhere, here, first-is, first_unique}
 
@@ -16,18 +15,18 @@ unfolding first_to
 first_more p k = refl
 
 -- what is found among the numbers below i
-pub record Seeking (p : ℕ → Bool) (k i : ℕ) (found : Found) : Type 0 where
+pub record Seeking (p : ℕ → Bool) (k i : ℕ) (found : Option ℕ) : Type 0 where
   pub low : i ≤ k
   pub is : found ≡ first_to p i
 
 module _ (p : ℕ → Bool) (k : ℕ) where
-  pub seek_start : Seeking p k 0 Nothing
+  pub seek_start : Seeking p k 0 None
   unfolding first_to
   seek_start = record { low = omega arith; is = refl }
 
-  module _ (i : ℕ) (f : Found) (s : Seeking p k i f) where
+  module _ (i : ℕ) (f : Option ℕ) (s : Seeking p k i f) where
     -- b is the test's answer at i, g what is found then
-    pub seek_more : i < k → (b : Bool) → b ≡ p i → (g : Found) → g ≡ or_here f b i → Seeking p k (i + 1) g
+    pub seek_more : i < k → (b : Bool) → b ≡ p i → (g : Option ℕ) → g ≡ or_here f b i → Seeking p k (i + 1) g
     seek_more l b q g e =
         record {
           low = omega arith;
@@ -38,14 +37,14 @@ module _ (p : ℕ → Bool) (k : ℕ) where
     seek_done h = subst (λ j. f ≡ first_to p j) (omega (arith, s.low)) s.is
 
   -- the loop that ends with the first: nothing below i passes
-  module _ (i : ℕ) (s : Seeking p k i Nothing) where
-    pub seek_past : i < k → (b : Bool) → b ≡ p i → b ≡ false → Seeking p k (i + 1) Nothing
+  module _ (i : ℕ) (s : Seeking p k i None) where
+    pub seek_past : i < k → (b : Bool) → b ≡ p i → b ≡ false → Seeking p k (i + 1) None
     unfolding or_here
-    seek_past l b q z = seek_more i Nothing s l b q Nothing (rw z)
+    seek_past l b q z = seek_more i None s l b q None (rw z)
 
-    none_below : Lowest p i Nothing → (j : ℕ) → j < i → p j ≡ false
+    none_below : Lowest p i None → (j : ℕ) → j < i → p j ≡ false
     none_below (nowhere h) = h
 
-    pub seek_here : i < k → (b : Bool) → b ≡ p i → b ≡ true → At i ≡ first_to p k
+    pub seek_here : i < k → (b : Bool) → b ≡ p i → b ≡ true → Some i ≡ first_to p k
     seek_here l b q z =
         first_unique p k (here {e = i} l (sym q ∙ z) (none_below (subst (Lowest p i) (sym s.is) (first-is p i)))) (first-is p k)

@@ -1,10 +1,10 @@
 // Numbers in lent rows: total reads, and what a search found as a verdict.
 #![tactic(auto)]
 
-ghost use Rattle.std.specs.Prelude.{◌≡◌, get_or, take};
-ghost use Rattle.rows.specs.First.{or_here, refuse_if, refused_at};
+ghost use Rattle.std.specs.Prelude.{◌≡◌, ◌<◌, ℕ, Bool, get_or, take};
+ghost use Rattle.rows.specs.First.{first_to, refuse_if, refused_at};
 
-use edition::{Found, Refusal, Verdict, Why};
+use edition::{Refusal, Why};
 
 // The number at place i; another one past the row's end.
 pub fn at(row: &[u16], i: usize, other: u16) -> u16
@@ -32,36 +32,37 @@ pub fn first(row: &[u16], n: usize) -> &[u16]
 
 // Refused for this reason and at this place where the test holds.
 #[tactic(auto, unfolding(crate::specs::First::refuse_if))]
-pub fn refuse_if(bad: bool, why: Why, place: usize) -> Verdict
+pub fn refuse_if(bad: bool, why: Why, place: usize) -> Result<(), Refusal>
     ensures { result ≡ refuse_if bad why place }
 {
     if bad {
-        return Verdict::Refused(Refusal { why, place });
+        return Err(Refusal { why, place });
     }
-    Verdict::Taken
+    Ok(())
 }
 
-// What was found, or else this place where the test passes. Over rising places it finds the lowest that passes.
-#[tactic(auto, unfolding(crate::specs::First::or_here))]
-pub fn or_here(found: Found, passes: bool, place: usize) -> Found
-    ensures { result ≡ or_here found passes place }
+// The lowest number below n that passes.
+pub fn lowest<F: Fn(usize) -> bool>(n: usize, passes: F) -> Option<usize>
+    requires { F.IsAlwaysCallable passes }
+    ensures { (p : ℕ → Bool)
+        → ((k : ℕ) (b : Bool) → k < n → F.post passes k b → b ≡ p k)
+        → result ≡ first_to p n }
 {
-    if !passes {
-        return found;
+    for k in 0..n {
+        if passes(k) {
+            return Some(k);
+        }
     }
-    match found {
-        Found::Nothing => Found::At(place),
-        Found::At(lower) => Found::At(lower),
-    }
+    None
 }
 
 // Refused for this reason at what was found.
 #[tactic(auto, unfolding(crate::specs::First::refused_at))]
-pub fn refused_at(why: Why, found: Found) -> Verdict
+pub fn refused_at(why: Why, found: Option<usize>) -> Result<(), Refusal>
     ensures { result ≡ refused_at why found }
 {
     match found {
-        Found::Nothing => Verdict::Taken,
-        Found::At(place) => Verdict::Refused(Refusal { why, place }),
+        None => Ok(()),
+        Some(place) => Err(Refusal { why, place }),
     }
 }

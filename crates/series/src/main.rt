@@ -9,7 +9,8 @@
 
 ghost use Rattle.std.specs.Prelude.{◌+◌, ◌*◌, ◌≤◌, ◌<◌, length};
 
-use edition::{Change, Memory, Refusal, Search, Verdict};
+use edition::{Change, Memory, Refusal, Search};
+use network::Network;
 use test_words::HEAD;
 
 // The numbers of standard input and output.
@@ -55,17 +56,11 @@ fn mix(sum: u64, more: u64) -> u64 {
     (sum % PRIME * FACTOR + more % PRIME) % PRIME
 }
 
-fn wide(x: u16) -> u64 {
-    x as u64
-}
-
 // A row of links mixed in.
 fn fold_links(links: &[u16], start: u64) -> u64 {
     let mut sum = start;
-    let mut i = 0;
-    while i < links.len() {
-        sum = mix(sum, wide(links[i]));
-        i += 1;
+    for number in links {
+        sum = mix(sum, *number as u64);
     }
     sum
 }
@@ -73,10 +68,8 @@ fn fold_links(links: &[u16], start: u64) -> u64 {
 // A row of entries mixed in.
 fn fold_entries(entries: &[u64], start: u64) -> u64 {
     let mut sum = start;
-    let mut i = 0;
-    while i < entries.len() {
-        sum = mix(sum, entries[i]);
-        i += 1;
+    for number in entries {
+        sum = mix(sum, *number);
     }
     sum
 }
@@ -100,10 +93,10 @@ fn print_refusal(refusal: Refusal) {
 }
 
 // Prints `ok` or `refused N P`.
-fn print_verdict(said: Verdict) {
+fn print_verdict(said: Result<(), Refusal>) {
     match said {
-        Verdict::Taken => print_text(b"ok"),
-        Verdict::Refused(refusal) => print_refusal(refusal),
+        Ok(()) => print_text(b"ok"),
+        Err(refusal) => print_refusal(refusal),
     }
 }
 
@@ -136,12 +129,8 @@ fn series(
 )
     requires { 2 * (from + 3 * count) ≤ length raw.now }
 {
-    let mut at = from;
-    let mut left = count;
-    while 0 < left {
-        step(raw, at, links, parents, search, entries);
-        at += CHANGE;
-        left -= 1;
+    for i in 0..count {
+        step(raw, from + i * CHANGE, links, parents, search, entries);
     }
 }
 
@@ -158,12 +147,16 @@ fn worked(
 {
     test_words::decode(&raw[2 * HEAD..], parents);
     test_words::decode(&raw[2 * (HEAD + parents.len())..], links);
-    let said = table::table(links, parents, search, entries);
-    let Verdict::Taken = said else {
-        print_verdict(said);
+    let net = Network {
+        links,
+        parents,
+        search,
+    };
+    if let Err(refusal) = table::table(net, entries) {
+        print_refusal(refusal);
         print_text(b"\n");
         return;
-    };
+    }
     let from = HEAD + parents.len() + links.len();
     series(raw, from, count, links, parents, search, entries);
 }
@@ -174,49 +167,37 @@ fn answered(raw: &[u8], links: &mut [u16], parents: &mut [u16], entries: &mut [u
     let n = head.nodes;
     let m = head.links;
     let k = head.count;
-    if parents.len() < n {
-        return false;
-    }
     let linked = network::numbers_of(m);
     let lent = entries::numbers_of(n) + entries::numbers_of(SPARE);
-    if network::links_in(links) < m {
+    if parents.len() < n
+        || network::links_in(links) < m
+        || links.len() < linked
+        || entries.len() < lent
+    {
         return false;
     }
-    if links.len() < linked {
-        return false;
-    }
-    if entries.len() < lent {
-        return false;
-    }
-    if CHANGES < k {
-        return false;
-    }
-    if raw.len() != 2 * (HEAD + n + linked + k * CHANGE) {
+    if CHANGES < k || raw.len() != 2 * (HEAD + n + linked + k * CHANGE) {
         return false;
     }
     worked(
         raw,
         k,
-        &mut links[0..linked],
-        &mut parents[0..n],
+        &mut links[..linked],
+        &mut parents[..n],
         head.search,
-        &mut entries[0..lent],
+        &mut entries[..lent],
     );
     true
 }
 
 // Reads the input and prints its answer, by way of lent rows.
-fn run(raw: &mut [u8], links: &mut [u16], parents: &mut [u16], entries: &mut [u64]) {
-    let got = io::read_full(STDIN, raw);
-    if !answered(&raw[0..got], links, parents, entries) {
-        print_text(b"refused\n");
-    }
-}
-
 fn main() {
     let mut raw = [0u8; BYTES];
     let mut links = [0u16; Memory::LINK_ROW];
     let mut parents = [0u16; Memory::NODES];
     let mut entries = [FILL; LENT];
-    run(&mut raw, &mut links, &mut parents, &mut entries);
+    let got = io::read_full(STDIN, &mut raw);
+    if !answered(&raw[..got], &mut links, &mut parents, &mut entries) {
+        print_text(b"refused\n");
+    }
 }

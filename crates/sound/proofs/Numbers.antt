@@ -1,5 +1,6 @@
 -- Which numbers the check of a network can give: no number but 1 to 9 and 14, and 14 only where the tie rule is none; and what 8 names.
 -- Assumes nothing.
+use Rattle.std.specs.Prelude.{Err}
 use mathlib.Core.Path.{◌≡◌, refl, sym, ◌∙◌}
 use mathlib.Core.Bool.{false}
 use mathlib.Core.List.{List, [], ◌∷◌, ◌++◌}
@@ -7,7 +8,6 @@ use Prim.Native.Nat.{ℕ, ◌<◌}
 use Rattle.edition.specs.declared.Limits.{Limits}
 use Rattle.edition.specs.declared.Search.{Search}
 use Rattle.edition.specs.declared.Refusal.{Refusal}
-use Rattle.edition.specs.declared.Verdict.TheVariants.{Refused}
 use Rattle.edition.specs.declared.Why.TheVariants.{NodeCount, LinkCount, BadRoot, BadDepth, BadRule, BadEnds, BadMark, BadParent, NoRoute, NotShort}
 use Rattle.edition.specs.Refusals.{number_of}
 use Rattle.edition.specs.Limits.{memory_limits}
@@ -83,7 +83,7 @@ ruled_net_gives g fine =
 -- a network that is refused by 8 names a node that does not come to the root within any number of nodes
 pub refused-lost :
     (g : Net) (r : Refusal)
-    → net_verdict g ≡ Refused r → number_of r.why ≡ 8
+    → net_verdict g ≡ Err r → number_of r.why ≡ 8
     → (r.place < g.nodes) × ((k : ℕ) → arrives (tree_of g) k r.place ≡ false)
 unfolding net_verdict record_verdict number_of has
 refused-lost g r h eight =
@@ -91,7 +91,7 @@ refused-lost g r h eight =
     let v5 = passed (5 ∷ []) _ _ r (at_gives (5 ∷ []) _ g.links BadEnds refl) (rw eight) (sym (only_one _) ∙ v1.1) in
     let v6 = passed (6 ∷ []) _ _ r (at_gives (6 ∷ []) _ g.links BadMark refl) (rw eight) v5.1 in
     let v7 = passed (7 ∷ []) _ _ r (at_gives (7 ∷ []) _ g.nodes BadParent refl) (rw eight) v6.1 in
-    let last : refuse_at (no_route g) g.nodes NoRoute ≡ Refused r =
+    let last : refuse_at (no_route g) g.nodes NoRoute ≡ Err r =
     given_first (9 ∷ []) _ _ r (first_gives (9 ∷ []) _ _ (at_gives (9 ∷ []) (not_short g) g.links NotShort refl) (none_gives (9 ∷ []))) (rw eight) v7.1 in
     let named = at_named (no_route g) g.nodes NoRoute r last in (
       named.0,

@@ -1,11 +1,13 @@
 -- Two outcomes that a promise allows are equal: one theorem a public function, in the words of its contract. Assumes nothing.
+use Rattle.std.specs.Prelude.{Result}
 use Prim.Native.Nat.{ℕ}
 use mathlib.Core.List.{List}
 use Rattle.edition.specs.declared.Search.{Search}
 use Rattle.network.specs.Network.{net_of}
 use Rattle.sound.specs.Sound.{keeps_short, checked, handed_up}
 use Rattle.sound.specs.Surveyed.{sound_verdict, sound_row}
-use Rattle.sound.specs.declared.Checked.{Checked}
+use Rattle.edition.specs.declared.Refusal.{Refusal}
+use Rattle.sound.specs.declared.Sizes.{Sizes}
 use Rattle.edition.proofs.Only.{One, one}
 
 -- `sound::keeps_short`
@@ -20,7 +22,7 @@ pub one_check_network :
 one_check_network links parents search = one _
 
 -- `sound::handed_up`
-pub one_handed_up : (said : Checked) → One (handed_up said)
+pub one_handed_up : (said : Result Sizes Refusal) → One (handed_up said)
 one_handed_up said = one _
 
 -- `sound::survey_network`

@@ -1,11 +1,11 @@
 -- 1 to 7 and then 8 and 9 are 1 to 9; and what 1 to 7 leave. Assumes nothing.
+use Rattle.std.specs.Prelude.{Err, Ok}
 use mathlib.Core.Path.{◌≡◌, refl}
 use mathlib.Core.List.{[], ◌∷◌}
 use Prim.Native.Nat.{ℕ, ◌<◌}
 use lib.Dec.{eqb, leb}
 use borrow.Author.Tests.{leb-false}
-use Rattle.edition.specs.declared.Verdict.{Verdict}
-use Rattle.edition.specs.declared.Verdict.TheVariants.{Taken, Refused}
+use Rattle.edition.specs.Refusals.{Verdict, taken}
 use Rattle.edition.specs.declared.Why.TheVariants.{NodeCount, BadRoot, BadEnds, BadParent}
 use Rattle.rows.specs.First.{firstly}
 use Rattle.rows.proofs.Tests.{or3_false}
@@ -21,20 +21,20 @@ regroup :
     → firstly (firstly (a ∷ b ∷ c ∷ d ∷ []) ∷ firstly (e ∷ f ∷ []) ∷ [])
     ≡ firstly (a ∷ firstly (b ∷ c ∷ d ∷ e ∷ f ∷ []) ∷ [])
 unfolding firstly
-regroup (Refused r) b c d e f = refl
-regroup Taken (Refused r) c d e f = refl
-regroup Taken Taken (Refused r) d e f = refl
-regroup Taken Taken Taken (Refused r) e f = refl
-regroup Taken Taken Taken Taken (Refused r) f = refl
-regroup Taken Taken Taken Taken Taken (Refused r) = refl
-regroup Taken Taken Taken Taken Taken Taken = refl
+regroup (Err r) b c d e f = refl
+regroup (Ok _) (Err r) c d e f = refl
+regroup (Ok _) (Ok _) (Err r) d e f = refl
+regroup (Ok _) (Ok _) (Ok _) (Err r) e f = refl
+regroup (Ok _) (Ok _) (Ok _) (Ok _) (Err r) f = refl
+regroup (Ok _) (Ok _) (Ok _) (Ok _) (Ok _) (Err r) = refl
+regroup (Ok _) (Ok _) (Ok _) (Ok _) (Ok _) (Ok _) = refl
 
 -- the order for a network in two parts
 pub net_parts : (g : Net) → firstly (plain_verdict g ∷ tree_verdict g ∷ []) ≡ net_verdict g
 unfolding plain_verdict tree_verdict net_verdict record_verdict
 net_parts g = regroup _ _ _ _ _ _
 
-pub plain_passed : (g : Net) → plain_verdict g ≡ Taken → Passed g
+pub plain_passed : (g : Net) → plain_verdict g ≡ taken → Passed g
 unfolding plain_verdict size_verdict
 plain_passed g t =
     let sizes = head_taken _ _ t in

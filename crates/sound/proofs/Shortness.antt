@@ -1,20 +1,15 @@
 -- Refusals 8 and 9 by a walk over the nodes and its row of distances are those by the definitions. Assumes nothing.
+use Rattle.std.specs.Prelude.{Err, Option}
 use mathlib.Core.Path.{◌≡◌, refl, sym, ap, ◌∙◌}
-use mathlib.Core.Bool.{Bool, true, false, ◌&&◌}
 use mathlib.Core.List.{List}
-use Prim.Native.Nat.{ℕ, ◌+◌, ◌-◌, ◌<◌, ◌≤◌}
+use Prim.Native.Nat.{ℕ, ◌<◌}
 use native.Mathlib.Omega.{arith}
-use lib.Dec.{leb}
 use lib.ListN.{length}
-use borrow.Author.Tests.{leb-true, leb-false, le-leb, lt-leb}
-use Rattle.edition.specs.declared.Verdict.{Verdict}
-use Rattle.edition.specs.declared.Verdict.TheVariants.{Taken, Refused}
-use Rattle.edition.specs.declared.Found.{Found}
+use Rattle.edition.specs.Refusals.{Verdict, taken, if_taken}
 use Rattle.edition.specs.declared.Refusal.{Refusal}
 use Rattle.edition.specs.declared.Search.{Search}
 use Rattle.edition.specs.declared.Why.TheVariants.{NoRoute, NotShort}
 use Rattle.edition.specs.Limits.{node_limit}
-use Rattle.edition.specs.Refusals.{if_taken}
 use Rattle.rows.specs.Count.{row_with}
 use Rattle.rows.specs.First.{first_to, refused_at, refuse_at}
 use Rattle.rows.proofs.Best.{first_cong}
@@ -25,27 +20,10 @@ use Rattle.tree.specs.Tree.{tree_of, dist}
 use Rattle.tree.proofs.Answering.{few-nodes}
 use Rattle.survey.specs.Survey.{routeless, closed_verdict, survey_verdict, survey_row}
 use Rattle.survey.proofs.Surveyed.{closed_passes, survey_is}
-use Rattle.sound.specs.Sound.{no_route, keeps_short, short, not_short}
+use Rattle.sound.specs.Sound.{no_route, short, not_short}
 use Rattle.sound.specs.Work.{breaks_by, Passed, tree_verdict}
 use Rattle.sound.proofs.Closing.{parent-node}
 use Rattle.sound.proofs.Plain.{passed_ends}
-
--- the two inequalities by the difference of the distances
-pub short-more : (p q w : ℕ) → p < q → leb (q - p) w ≡ keeps_short p q w
-unfolding keeps_short
-short-more p q w l = rw (le-leb p (q + w) (omega arith)) (go (leb (q - p) w) refl)
-  where
-    go : (b : Bool) → leb (q - p) w ≡ b → leb (q - p) w ≡ leb q (p + w)
-    go true e = e ∙ sym (le-leb q (p + w) (omega (arith, leb-true (q - p) w e)))
-    go false e = e ∙ sym (lt-leb q (p + w) (omega (arith, leb-false (q - p) w e)))
-
-pub short_less : (p q w : ℕ) → q ≤ p → leb (p - q) w ≡ keeps_short p q w
-unfolding keeps_short
-short_less p q w l = go (leb (p - q) w) refl
-  where
-    go : (b : Bool) → leb (p - q) w ≡ b → leb (p - q) w ≡ (leb p (q + w) && leb q (p + w))
-    go true e = rw (e, le-leb p (q + w) (omega (arith, leb-true (p - q) w e)), le-leb q (p + w) (omega arith))
-    go false e = rw (e, lt-leb p (q + w) (omega (arith, leb-false (p - q) w e)))
 
 module _ (links parents : List ℕ) (search : Search) where
   abbrev g : Net
@@ -67,7 +45,7 @@ module _ (links parents : List ℕ) (search : Search) where
         )
 
     -- a walk over the nodes refuses for 8 alone
-    walk_taken : closed_verdict g (length row) ≡ Taken
+    walk_taken : closed_verdict g (length row) ≡ taken
     unfolding net_of
     walk_taken =
         closed_passes g (length row) passed.nodes-ok (omega (arith, few-nodes (length parents) passed.nodes-ok)) passed.root_ok
@@ -79,13 +57,13 @@ module _ (links parents : List ℕ) (search : Search) where
       walked_is =
           q.0 ∙ survey_is g row _ refl walk_taken ∙ ap (refused_at NoRoute) (first_cong (routeless (tree_of g)) (no_route g) g.nodes (λ u l. refl))
 
-      pub tree_refused : (r : Refusal) → v ≡ Refused r → v ≡ tree_verdict g
+      pub tree_refused : (r : Refusal) → v ≡ Err r → v ≡ tree_verdict g
       unfolding tree_verdict
       tree_refused r t = t ∙ sym (head_refuses _ _ r (sym walked_is ∙ t))
 
       pub tree_walked :
-          v ≡ Taken
-          → (f : Found) → f ≡ first_to (λ e. breaks_by after (link_in links e)) (links_in links)
+          v ≡ taken
+          → (f : Option ℕ) → f ≡ first_to (λ e. breaks_by after (link_in links e)) (links_in links)
           → (w : Verdict) → w ≡ refused_at NotShort f → w ≡ tree_verdict g
       unfolding tree_verdict survey_row refuse_at net_of
       tree_walked t f p w s =

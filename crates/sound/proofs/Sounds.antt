@@ -1,12 +1,9 @@
 -- A network is taken exactly where it is sound: what each check says, held for every link and node. Assumes nothing.
-use mathlib.Core.Path.{◌≡◌, sym, subst, ◌∙◌}
+use mathlib.Core.Path.{◌≡◌}
 use mathlib.Core.Bool.{false}
 use Prim.Native.Nat.{ℕ, ◌<◌}
 use borrow.Author.Tests.{not-false}
-use Rattle.edition.specs.declared.Limits.{Limits}
-use Rattle.edition.specs.declared.Search.{Search}
-use Rattle.edition.specs.declared.Verdict.{Verdict}
-use Rattle.edition.specs.declared.Verdict.TheVariants.{Taken}
+use Rattle.edition.specs.Refusals.{taken as no_refusal}
 use Rattle.edition.specs.declared.Why.TheVariants.{NodeCount, LinkCount, BadRoot, BadDepth, BadRule, BadEnds, BadMark, BadParent, NoRoute, NotShort}
 use Rattle.edition.specs.Limits.{memory_limits}
 use Rattle.rows.proofs.Refusing.{head_taken, rest-taken, both_taken, none_left, if_taken_lem, if_passes, at_taken, at_passes}
@@ -45,7 +42,7 @@ pub home-not : (g : Net) (u : ℕ) → Home (tree_of g) u → no_route g u ≡ f
 unfolding no_route
 home-not g u h = rw h
 
-sizes_say : (g : Net) → size_verdict memory_limits g.nodes g.links g.search ≡ Taken → Sized g
+sizes_say : (g : Net) → size_verdict memory_limits g.nodes g.links g.search ≡ no_refusal → Sized g
 unfolding size_verdict
 sizes_say g t1 =
     let t2 = rest-taken _ _ t1 in
@@ -60,19 +57,7 @@ sizes_say g t1 =
       rule_ok = if_taken_lem _ BadRule 0 (head_taken _ _ t14);
     }
 
--- of numbers: 1 and 3 are among what is taken
-pub sizes_known :
-    (most : Limits) (n m : ℕ) (search : Search) (v : Verdict)
-    → most ≡ memory_limits → v ≡ size_verdict most n m search → v ≡ Taken
-    → (bad_nodes memory_limits n ≡ false) × (bad_root n search.root ≡ false)
-unfolding size_verdict
-sizes_known most n m search v e q p =
-    let t1 = sym q ∙ p in (
-      subst (λ (k : Limits). bad_nodes k n ≡ false) e (if_taken_lem _ NodeCount 0 (head_taken _ _ t1)),
-      if_taken_lem _ BadRoot 0 (head_taken _ _ (rest-taken _ _ (rest-taken _ _ t1))),
-    )
-
-records_say : (g : Net) → record_verdict g ≡ Taken → Recorded g
+records_say : (g : Net) → record_verdict g ≡ no_refusal → Recorded g
 unfolding record_verdict
 records_say g t5 =
     let t6 = rest-taken _ _ t5 in
@@ -88,12 +73,12 @@ records_say g t5 =
     }
 
 -- a network that is taken is sound
-pub sound : (g : Net) → net_verdict g ≡ Taken → Sound g
+pub sound : (g : Net) → net_verdict g ≡ no_refusal → Sound g
 unfolding net_verdict
 sound g h =
     record { sized = sizes_say g (head_taken _ _ h); recorded = records_say g (head_taken _ _ (rest-taken _ _ h)) }
 
-pub sizes_taken : (g : Net) → Sized g → size_verdict memory_limits g.nodes g.links g.search ≡ Taken
+pub sizes_taken : (g : Net) → Sized g → size_verdict memory_limits g.nodes g.links g.search ≡ no_refusal
 unfolding size_verdict
 sizes_taken g s =
     both_taken _ _ (if_passes _ NodeCount 0 s.nodes-ok)
@@ -102,7 +87,7 @@ sizes_taken g s =
     (both_taken _ _ (if_passes _ BadDepth 0 s.depth_ok)
     (both_taken _ _ (if_passes _ BadRule 0 s.rule_ok) none_left))))
 
-records_taken : (g : Net) → Recorded g → record_verdict g ≡ Taken
+records_taken : (g : Net) → Recorded g → record_verdict g ≡ no_refusal
 unfolding record_verdict
 records_taken g r =
     both_taken _ _ (at_passes (λ e. bad_ends g.nodes (g.link e)) g.links BadEnds r.ends_ok)
@@ -112,6 +97,6 @@ records_taken g r =
     (both_taken _ _ (at_passes (not_short g) g.links NotShort r.short_ok) none_left))))
 
 -- and a sound network is taken
-pub taken : (g : Net) → Sound g → net_verdict g ≡ Taken
+pub taken : (g : Net) → Sound g → net_verdict g ≡ no_refusal
 unfolding net_verdict
 taken g s = both_taken _ _ (sizes_taken g s.sized) (both_taken _ _ (records_taken g s.recorded) none_left)

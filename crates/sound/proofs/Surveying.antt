@@ -1,5 +1,6 @@
 -- The check that leaves a survey says 1 to 9 as the definitions do, and the row that it leaves is the survey of the network.
 -- Assumes nothing.
+use Rattle.std.specs.Prelude.{Err, Option}
 use mathlib.Core.Path.{◌≡◌, refl, sym, ap, ◌∙◌}
 use mathlib.Core.List.{List, [], ◌∷◌}
 use Prim.Native.Nat.{ℕ, ◌<◌, ◌≤◌}
@@ -7,14 +8,11 @@ use native.Mathlib.Omega.{arith}
 use lib.Dec.{ltb}
 use lib.ListN.{length, get_or}
 use borrow.Author.Tests.{le-ltb, ltb-false}
-use Rattle.edition.specs.declared.Verdict.{Verdict}
-use Rattle.edition.specs.declared.Verdict.TheVariants.{Taken, Refused}
-use Rattle.edition.specs.declared.Found.{Found}
+use Rattle.edition.specs.Refusals.{Verdict, taken, if_taken}
 use Rattle.edition.specs.declared.Refusal.{Refusal}
 use Rattle.edition.specs.declared.Search.{Search}
 use Rattle.edition.specs.declared.Why.TheVariants.{NoRoute, NotShort, NoRoom}
 use Rattle.edition.specs.Limits.{node_limit, longest}
-use Rattle.edition.specs.Refusals.{if_taken}
 use Rattle.rows.specs.First.{first_to, refused_at, refuse_at, refuse_if, firstly}
 use Rattle.rows.proofs.Best.{first_cong}
 use Rattle.rows.proofs.Refusing.{head_refuses, head_passes, head_taken, rest-taken, only_one, if_taken_lem, if_passes}
@@ -61,7 +59,7 @@ module _ (links parents : List ℕ) (search : Search) where
     breaks-is e l = rw (near_at g row (link_in links e).first (ends_in e l).0, near_at g row (link_in links e).second (ends_in e l).1)
 
     -- a walk over the nodes refuses for 8 alone
-    walk_taken : closed_verdict g (nodes_in row) ≡ Taken
+    walk_taken : closed_verdict g (nodes_in row) ≡ taken
     unfolding net_of
     walk_taken =
         closed_passes g (nodes_in row) passed.nodes-ok (omega (arith, few-nodes (length parents) passed.nodes-ok, room)) passed.root_ok
@@ -79,12 +77,12 @@ module _ (links parents : List ℕ) (search : Search) where
     row_is = ap (λ (v : Verdict). if_taken v (survey_of g row) row) verdict_is
 
     module _ (v : Verdict) (after : List ℕ) (q : (v ≡ surveyed_verdict g row) × (after ≡ surveyed_row g row)) where
-      pub walk_refused : (r : Refusal) → v ≡ Refused r → (v ≡ tree_verdict g) × (after ≡ tree_row g row)
+      pub walk_refused : (r : Refusal) → v ≡ Err r → (v ≡ tree_verdict g) × (after ≡ tree_row g row)
       unfolding tree_verdict
       walk_refused r t = (t ∙ sym (head_refuses _ _ r (sym verdict_is ∙ sym q.0 ∙ t)), q.1 ∙ row_is)
 
-      module _ (t : v ≡ Taken) where
-        taken_is : refuse_at (no_route g) g.nodes NoRoute ≡ Taken
+      module _ (t : v ≡ taken) where
+        taken_is : refuse_at (no_route g) g.nodes NoRoute ≡ taken
         taken_is = sym verdict_is ∙ sym q.0 ∙ t
 
         filled : after ≡ survey_of g row
@@ -100,7 +98,7 @@ module _ (links parents : List ℕ) (search : Search) where
             }
 
         pub walk_done :
-            (f : Found)
+            (f : Option ℕ)
             → f ≡ first_to (λ e. breaks_in after (link_in links e)) (links_in links)
             → (w : Verdict) → w ≡ refused_at NotShort f → (w ≡ tree_verdict g) × (after ≡ tree_row g row)
         unfolding tree_verdict refuse_at net_of
@@ -116,30 +114,30 @@ pub narrow-is : (row : List ℕ) (k : ℕ) → k ≡ nodes_in row → (v : Verdi
 unfolding narrow
 narrow-is row k q v e = e ∙ ap (λ (j : ℕ). refuse_if (ltb j node_limit) NoRoom 0) q
 
-pub narrow-room : (row : List ℕ) → narrow row ≡ Taken → node_limit ≤ nodes_in row
+pub narrow-room : (row : List ℕ) → narrow row ≡ taken → node_limit ≤ nodes_in row
 unfolding narrow
 narrow-room row t = ltb-false (nodes_in row) node_limit (if_taken_lem _ NoRoom 0 t)
 
 -- in the order of the whole check
 module _ (g : Net) (row : List ℕ) where
-  pub narrow-refused : (v : Verdict) → v ≡ narrow row → (r : Refusal) → v ≡ Refused r → (v ≡ sound_verdict g row) × (row ≡ sound_row g row)
+  pub narrow-refused : (v : Verdict) → v ≡ narrow row → (r : Refusal) → v ≡ Err r → (v ≡ sound_verdict g row) × (row ≡ sound_row g row)
   unfolding sound_verdict sound_row
   narrow-refused v q r t =
       let is = sym q ∙ t in
       (t ∙ sym (head_refuses _ _ r is), sym (ap (λ (w : Verdict). if_taken w (survey_of g row) row) (head_refuses _ _ r is)))
 
-  module _ (wide : narrow row ≡ Taken) where
-    pub plain_refused : (v : Verdict) → v ≡ plain_verdict g → (r : Refusal) → v ≡ Refused r → (v ≡ sound_verdict g row) × (row ≡ sound_row g row)
+  module _ (wide : narrow row ≡ taken) where
+    pub plain_refused : (v : Verdict) → v ≡ plain_verdict g → (r : Refusal) → v ≡ Err r → (v ≡ sound_verdict g row) × (row ≡ sound_row g row)
     unfolding sound_verdict sound_row
     plain_refused v q r t =
         let is = sym q ∙ t in
-        let net : net_verdict g ≡ Refused r = sym (net_parts g) ∙ head_refuses _ _ r is in (
+        let net : net_verdict g ≡ Err r = sym (net_parts g) ∙ head_refuses _ _ r is in (
           t ∙ sym (head_passes _ _ wide ∙ only_one _ ∙ net),
           sym (ap (λ (w : Verdict). if_taken w (survey_of g row) row) (head_passes _ _ wide ∙ head_refuses _ _ r is)),
         )
 
     pub tree_surveyed :
-        plain_verdict g ≡ Taken → (w : Verdict) (after : List ℕ) → (w ≡ tree_verdict g) × (after ≡ tree_row g row)
+        plain_verdict g ≡ taken → (w : Verdict) (after : List ℕ) → (w ≡ tree_verdict g) × (after ≡ tree_row g row)
         → (w ≡ sound_verdict g row) × (after ≡ sound_row g row)
     unfolding sound_verdict sound_row tree_row
     tree_surveyed t w after z = (
@@ -148,7 +146,7 @@ module _ (g : Net) (row : List ℕ) where
     )
 
 -- what a caller with room for all nodes gets
-pub wide_taken : (row : List ℕ) → node_limit ≤ nodes_in row → narrow row ≡ Taken
+pub wide_taken : (row : List ℕ) → node_limit ≤ nodes_in row → narrow row ≡ taken
 unfolding narrow
 wide_taken row h = if_passes (ltb (nodes_in row) node_limit) NoRoom 0 (le-ltb (nodes_in row) node_limit h)
 
@@ -160,22 +158,22 @@ module _ (links parents : List ℕ) (search : Search) (held : (i : ℕ) → get_
   -- where nothing is refused, the row is the survey
   pub surveyed :
       (row after : List ℕ)
-      → node_limit ≤ nodes_in row → net_verdict (net_of links parents search) ≡ Taken
+      → node_limit ≤ nodes_in row → net_verdict (net_of links parents search) ≡ taken
       → after ≡ sound_row (net_of links parents search) row → Surveyed (net_of links parents search) after
   unfolding tree_verdict sound_row
   surveyed row after wide t q =
       let is = q ∙ filled in
       record {
-        taken = t;
+        is_taken = t;
         few = few links parents search held;
         room = rw is (survey_room (net_of links parents search) row);
         each = λ x l. rw is (survey_at (net_of links parents search) row x l);
       }
     where
-      parts : firstly (plain_verdict (net_of links parents search) ∷ tree_verdict (net_of links parents search) ∷ []) ≡ Taken
+      parts : firstly (plain_verdict (net_of links parents search) ∷ tree_verdict (net_of links parents search) ∷ []) ≡ taken
       parts = net_parts (net_of links parents search) ∙ t
 
-      routes : refuse_at (no_route (net_of links parents search)) (net_of links parents search).nodes NoRoute ≡ Taken
+      routes : refuse_at (no_route (net_of links parents search)) (net_of links parents search).nodes NoRoute ≡ taken
       routes = head_taken _ _ (head_taken _ _ (rest-taken _ _ parts))
 
       filled : sound_row (net_of links parents search) row ≡ survey_of (net_of links parents search) row

@@ -1,14 +1,13 @@
 -- The check of a network and its tree: refusals 8 and 9, and 1 to 9 with 14 in their order. Assumes nothing.
-use Rattle.std.specs.Prelude.{Bool, not, ◌&&◌, [], ◌∷◌, ℕ, ◌+◌, leb}
-use Rattle.edition.specs.declared.Verdict.{Verdict}
-use Rattle.edition.specs.declared.Verdict.TheVariants.{Taken, Refused}
+use Rattle.std.specs.Prelude.{Err, Ok, Result, Bool, not, ◌&&◌, [], ◌∷◌, ℕ, ◌+◌, leb}
+use Rattle.edition.specs.Refusals.{Verdict, taken}
 use Rattle.edition.specs.declared.Why.TheVariants.{BadEnds, BadMark, BadParent, NoRoute, NotShort}
 use Rattle.edition.specs.Limits.{memory_limits}
 use Rattle.rows.specs.First.{refuse_at, firstly}
 use Rattle.network.specs.Network.{Net, in_service}
 use Rattle.network.specs.Records.{size_verdict, bad_ends, bad_mark, bad_parent}
-use Rattle.sound.specs.declared.Checked.{Checked}
-use Rattle.sound.specs.declared.Checked.TheVariants.{Sound, Unsound}
+use Rattle.edition.specs.declared.Refusal.{Refusal}
+use Rattle.sound.specs.declared.Sizes.{Sizes}
 use Rattle.tree.specs.Tree.{Tree, tree_of, has_route, dist}
 
 -- 8: the node has no route to the root.
@@ -44,15 +43,15 @@ unfoldable pub net_verdict : Net → Verdict
 net_verdict g = firstly (size_verdict memory_limits g.nodes g.links g.search ∷ record_verdict g ∷ [])
 
 -- What the check answers: how large a sound network is, or the refusal.
-abbrev pub answer_of : Verdict → Net → Checked
-answer_of Taken g = Sound (record { nodes = g.nodes; links = g.links })
-answer_of (Refused r) g = Unsound r
+abbrev pub answer_of : Verdict → Net → Result Sizes Refusal
+answer_of (Ok _) g = Ok (record { nodes = g.nodes; links = g.links })
+answer_of (Err r) g = Err r
 
 -- The check of a network.
-unfoldable pub checked : Net → Checked
+unfoldable pub checked : Net → Result Sizes Refusal
 checked g = answer_of (net_verdict g) g
 
 -- What is handed up of a check: its refusal unchanged, or that nothing is refused.
-abbrev pub handed_up : Checked → Verdict
-handed_up (Sound sizes) = Taken
-handed_up (Unsound r) = Refused r
+abbrev pub handed_up : Result Sizes Refusal → Verdict
+handed_up (Ok sizes) = taken
+handed_up (Err r) = Err r

@@ -1,10 +1,8 @@
 -- The check of a network that leaves a survey: what is known of every node, in one row. Assumes nothing.
 use Rattle.std.specs.Prelude.{◌≡◌, List, [], ◌∷◌, ◌++◌, ℕ, ◌<◌, ◌≤◌, ltb}
 use Rattle.edition.specs.Limits.{longest, node_limit, memory_limits}
-use Rattle.edition.specs.declared.Verdict.{Verdict}
-use Rattle.edition.specs.declared.Verdict.TheVariants.{Taken}
+use Rattle.edition.specs.Refusals.{Verdict, taken, if_taken}
 use Rattle.edition.specs.declared.Why.TheVariants.{BadEnds, BadMark, BadParent, NoRoute, NoRoom}
-use Rattle.edition.specs.Refusals.{if_taken}
 use Rattle.rows.specs.Count.{rows_to}
 use Rattle.rows.specs.First.{refuse_if, refuse_at, firstly}
 use Rattle.network.specs.Network.{Net}
@@ -42,7 +40,7 @@ sound_row g row =
 
 -- The network is sound, no tree link is longer than a length can be, and the row has the record of every node.
 pub record Surveyed (g : Net) (row : List ℕ) : Type 0 where
-  pub taken : net_verdict g ≡ Taken
+  pub is_taken : net_verdict g ≡ taken
   pub few : (u : ℕ) → (tree_of g).rise u ≤ longest
   pub room : g.nodes ≤ nodes_in row
   pub each : (x : ℕ) → x < g.nodes → known_at row x ≡ known (tree_of g) x

@@ -1,9 +1,8 @@
 -- What private functions of this crate promise each other. No public promise cites this page. Assumes nothing.
 use Rattle.std.specs.Prelude.{◌≡◌, Bool, false, not, ◌&&◌, List, [], ◌∷◌, ℕ, ◌<◌, get_or}
-use Rattle.edition.specs.declared.Verdict.{Verdict}
+use Rattle.edition.specs.Refusals.{Verdict, if_taken}
 use Rattle.edition.specs.declared.Why.TheVariants.{NoRoute, NotShort}
 use Rattle.edition.specs.Limits.{memory_limits}
-use Rattle.edition.specs.Refusals.{if_taken}
 use Rattle.rows.specs.First.{refuse_at, firstly}
 use Rattle.network.specs.declared.Link.{Link}
 use Rattle.network.specs.Network.{Net, links_in, link_in, in_service}

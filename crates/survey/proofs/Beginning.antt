@@ -17,7 +17,7 @@ use Rattle.tree.proofs.InRows.{tree_in, root_in, at_root, off_root, few}
 use Rattle.survey.specs.declared.Known.{Known}
 use Rattle.survey.specs.Row.{known_width, nodes_in, known_at, put_known}
 use Rattle.survey.specs.Work.{Order, Held, Split, Under, Begun}
-use Rattle.survey.proofs.Holding.{Walk, held_start, held_room, held_as, split_down}
+use Rattle.survey.proofs.Holding.{Walk, held_as, split_down}
 use Rattle.survey.proofs.Stems.{near_few}
 
 -- nothing is said of a record yet
@@ -25,23 +25,12 @@ abbrev pub Unsaid : ℕ → Known → Type 0
 Unsaid u k = k ≡ k
 
 module _ (t : Tree) (order : List ℕ) (o : Order t order) (before : List ℕ) where
-  pub begin_start : t.size ≤ nodes_in before → Walk t before 0 (Split (Begun t) Unsaid o.place) 0 before
-  begin_start l =
-      record {
-        some = omega arith;
-        low = omega arith;
-        held = held_start t.size before (Split (Begun t) Unsaid o.place 0) l (λ u m. record { below = λ h. absurd (omega arith); above = λ h. refl });
-      }
-
   module _ (i : ℕ) (row : List ℕ) (s : Walk t before 0 (Split (Begun t) Unsaid o.place) i row) where
     pub begin_end : t.size ≤ i → Held t.size before (Begun t) row
     begin_end l =
         held_as t.size before (Split (Begun t) Unsaid o.place i) row s.held (Begun t) (λ u m z. z.below (omega (arith, o.within u m)))
 
     module _ (l : i < t.size) where
-      pub begin_node : get_or order i 0 < nodes_in row
-      begin_node = held_room t.size before (Split (Begun t) Unsaid o.place i) row s.held (get_or order i 0) (o.node i l)
-
       pub begin_under : Under t row (get_or order i 0)
       begin_under =
           let v = get_or order i 0 in

@@ -5,16 +5,13 @@ use mathlib.Core.List.{List, ◌++◌}
 use Prim.Native.Nat.{ℕ, ◌≤◌}
 use lib.ListN.{length, get_or}
 use borrow.Author.Tests.{eq-eqb}
-use Rattle.edition.specs.declared.Refusal.{Refusal}
 use Rattle.edition.specs.declared.Search.{Search}
-use Rattle.edition.specs.declared.Verdict.{Verdict}
-use Rattle.edition.specs.declared.Verdict.TheVariants.{Taken, Refused}
+use Rattle.edition.specs.Refusals.{Verdict, taken, if_taken}
 use Rattle.edition.specs.declared.Why.TheVariants.{NoRoute}
 use Rattle.edition.specs.Limits.{longest}
-use Rattle.edition.specs.Refusals.{if_taken}
 use Rattle.rows.specs.Count.{rows_to}
 use Rattle.rows.specs.First.{refuse_at}
-use Rattle.rows.proofs.Refusing.{head_refuses, head_passes, only_one}
+use Rattle.rows.proofs.Refusing.{head_passes, only_one}
 use Rattle.network.specs.Network.{Net, net_of}
 use Rattle.tree.specs.Tree.{Tree, tree_of}
 use Rattle.tree.proofs.InRows.{tree_in, few}
@@ -27,12 +24,12 @@ use Rattle.survey.proofs.Holding.{held_as, held_end}
 pub basis_in :
     (links parents : List ℕ) (search : Search) (order : List ℕ)
     → ((i : ℕ) → get_or links i 0 ≤ longest) → Order (tree_in links parents search) order
-    → Basis (tree_in links parents search) order (length parents)
+    → length order ≡ length parents → Basis (tree_in links parents search) order
 unfolding tree_of net_of
-basis_in links parents search order held o =
+basis_in links parents search order held o e =
     let top = eq-eqb search.root search.root refl in
     record {
-      nodes = refl;
+      nodes = e;
       ordered = o;
       top = rw top;
       flat = rw top;
@@ -48,19 +45,13 @@ module _ (g : Net) (row : List ℕ) (v : Verdict) (e : v ≡ closed_verdict g (n
   abbrev new : List ℕ
   new = rows_to (λ x. known_row (known (tree_of g) x)) g.nodes ++ past_known g.nodes row
 
-  pub surveyed-refused : (r : Refusal) → v ≡ Refused r → (v ≡ surveyed_verdict g row) × (row ≡ surveyed_row g row)
-  unfolding surveyed_verdict surveyed_row
-  surveyed-refused r q =
-      let whole = head_refuses (closed_verdict g (nodes_in row)) _ r (sym e ∙ q) in
-      (q ∙ sym whole, ap (λ (w : Verdict). if_taken w new row) (sym whole))
-
   -- nothing but 8 is left
-  surveyed-is : v ≡ Taken → surveyed_verdict g row ≡ refuse_at (routeless (tree_of g)) g.nodes NoRoute
+  surveyed-is : v ≡ taken → surveyed_verdict g row ≡ refuse_at (routeless (tree_of g)) g.nodes NoRoute
   unfolding surveyed_verdict
   surveyed-is q = head_passes (closed_verdict g (nodes_in row)) _ (sym e ∙ q) ∙ only_one _
 
   pub surveyed_walked :
-      v ≡ Taken
+      v ≡ taken
       → (w : Verdict) (after : List ℕ)
       → (w ≡ refuse_at (routeless (tree_of g)) g.nodes NoRoute)
       × (after ≡ if_taken w (rows_to (λ x. known_row (known (tree_of g) x)) g.nodes ++ past_known g.nodes row) row)

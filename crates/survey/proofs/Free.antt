@@ -1,5 +1,6 @@
 -- The climb to the first node that has a place: what it passes has none, and where it takes as many steps as there are nodes,
 -- none of them was the root. Assumes nothing.
+use Rattle.std.specs.Prelude.{Some, None}
 use mathlib.Core.Path.{◌≡◌, refl, sym, ap, ◌∙◌}
 use mathlib.Core.List.{List}
 use Prim.Native.Nat.{ℕ, ◌+◌, ◌<◌, ◌≤◌}
@@ -58,19 +59,10 @@ module _ (t : Tree) (seats : List ℕ) (u : ℕ) (before : List ℕ) where
           same = length-set path k v ∙ s.same;
         })
 
-    pub climbing_found : k < t.size → (get_or seats v 0 ≡ 0 → ⊥) → Climbed t seats u k path
+    pub climbing_found : k < t.size → (get_or seats v 0 ≡ 0 → ⊥) → Climbed t seats u (Some k) path
     climbing_found l some =
-        record {
-          low = s.low;
-          found = λ m. record { on = s.on; free = s.free; end = omega (arith, some, ap (λ (y : ℕ). get_or seats y 0) s.at) };
-          lost = λ e. absurd (omega arith);
-        }
+        (l, record { on = s.on; free = s.free; end = omega (arith, some, ap (λ (y : ℕ). get_or seats y 0) s.at) })
 
-    pub climbing_none : t.size ≤ k → Climbed t seats u k path
+    pub climbing_none : t.size ≤ k → Climbed t seats u None path
     unfolding has_route
-    climbing_none l =
-        record {
-          low = s.low;
-          found = λ m. absurd (omega arith);
-          lost = λ e. sym (finding_none t t.size u k v s.find l);
-        }
+    climbing_none l = sym (finding_none t t.size u k v s.find l)

@@ -33,9 +33,6 @@ row_back (a ∷ b ∷ c ∷ d ∷ e ∷ f ∷ g ∷ i ∷ r) h = absurd (omega a
 
 module _ (n : ℕ) (before : List ℕ) where
   module _ (P : ℕ → Known → Type 0) where
-    pub held_start : n ≤ nodes_in before → ((u : ℕ) → u < n → P u (known_at before u)) → Held n before P before
-    held_start l h = record { room = l; same = refl; past = refl; each = h }
-
     module _ (row : List ℕ) (s : Held n before P row) where
       pub held_room : (u : ℕ) → u < n → u < nodes_in row
       held_room u l = omega (arith, s.room, ap (λ (k : ℕ). k / known_width) s.same)

@@ -5,6 +5,7 @@ pub mod Settling
 pub mod Begun
 pub mod Whole
 pub mod Down
+pub mod Fronts
 pub mod Nexts
 pub mod Routed
 pub mod Surveyed
@@ -20,6 +21,5 @@ pub mod Beginning
 pub mod Raising
 pub mod Siding
 pub mod Turning
-pub mod Making
 pub mod Filled
 pub mod Outcomes

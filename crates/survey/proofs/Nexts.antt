@@ -1,7 +1,7 @@
 -- The next node of a walk down, in the words of the code. Assumes nothing.
 use mathlib.Core.Path.{◌≡◌, sym, ap, ◌∙◌}
 use mathlib.Core.List.{List}
-use Prim.Native.Nat.{ℕ, ◌+◌, ◌*◌, ◌<◌, ◌≤◌}
+use Prim.Native.Nat.{ℕ, ◌+◌, ◌*◌, ◌≤◌}
 use native.Mathlib.Nat.{mul-le-mul_right}
 use native.Mathlib.Omega.{arith}
 use lib.ListN.{length, get_or}
@@ -19,9 +19,6 @@ module _ (links parents : List ℕ) (search : Search) (row : List ℕ) (v : ℕ)
     -- the parent's number, at the parent
     pub above-is : (v ≡ search.root → ⊥) → (p : ℕ) → p ≡ (tree_in links parents search).up v → get_or row p 0 ≡ f p
     above-is e p q = rw q (s.up_is (λ z. e (z ∙ root_in links parents search)))
-
-    pub above-room : (p : ℕ) → p ≡ (tree_in links parents search).up v → p < length row
-    above-room p q = omega (arith, s.up-node, s.room)
 
   module _ (s : Next (tree_in links parents search) (dist (tree_in links parents search)) row v) where
     pub next_dist-root : v ≡ search.root → 0 ≡ dist (tree_in links parents search) v

@@ -30,7 +30,7 @@ pub record Raised (t : Tree) (place : ℕ → ℕ) (i x : ℕ) (k : Known) : Typ
   base-is : k.base ≡ arrived t place (dist t) i x
   two : Two t place i x k.deep k.beside
 
-module _ (t : Tree) (order : List ℕ) (n : ℕ) (b : Basis t order n) (before : List ℕ) where
+module _ (t : Tree) (order : List ℕ) (b : Basis t order) (before : List ℕ) where
   abbrev o : Order t order
   o = b.ordered
 
@@ -40,7 +40,7 @@ module _ (t : Tree) (order : List ℕ) (n : ℕ) (b : Basis t order n) (before :
       let z = child_says t o.home o.closed.up_in x c e in
       omega (arith, o.above c l (eqb-false c t.root z.0), ap o.place z.1)
 
-  pub raise_start : (row : List ℕ) → Held t.size before (Begun t) row → Walk t before 1 (Raised t o.place) n row
+  pub raise_start : (row : List ℕ) → Held t.size before (Begun t) row → Walk t before 1 (Raised t o.place) (length order) row
   raise_start row s =
       subst (λ (i : ℕ). Walk t before 1 (Raised t o.place) i row) (sym b.nodes)
       (record {
@@ -87,9 +87,6 @@ module _ (t : Tree) (order : List ℕ) (n : ℕ) (b : Basis t order n) (before :
 
       below : next < t.size
       below = omega (arith, s.low)
-
-      pub raise_read : next < length order
-      raise_read = omega (arith, below, o.room)
 
       node_in : v < t.size
       node_in = o.node next below

@@ -23,14 +23,11 @@ pub record Settling (t : Tree) (before : List ℕ) (from : List ℕ) (u k : ℕ)
   pub seats_same : length seats ≡ length from
 
 module _ (t : Tree) (u k : ℕ) (before from path : List ℕ) (m₀ : ℕ) (r : Ready t u k m₀ before from path) where
-  pub settling_start : Settling t before from u k path k m₀ before from
-  settling_start =
-      record { low = omega arith; placed = r.placed; ahead = r.ahead; still = λ v z. z; order_same = refl; seats_same = refl }
-
   module _ (left m : ℕ) (order seats : List ℕ) (s : Settling t before from u k path left m order seats) where
-    pub settling_end : left ≡ 0 → Settled t from u m order seats
+    pub settling_end : left ≡ 0 → (last : ℕ) → last ≡ m → Settled t from u last order seats
     unfolding up_by
-    settling_end z =
+    settling_end z last e =
+        rw e
         record { placed = s.placed; now = subst (λ (j : ℕ). 0 < get_or seats (up_by t j u) 0) z s.ahead.end; still = s.still }
 
     module _ (next : ℕ) (one : left ≡ suc next) where
@@ -44,9 +41,6 @@ module _ (t : Tree) (u k : ℕ) (before from path : List ℕ) (m₀ : ℕ) (r : 
       seat_none : get_or seats (get_or path next 0) 0 ≡ 0
       seat_none = rw at_next (s.ahead.free next (omega arith))
 
-      pub next_read : next < length path
-      next_read = omega (arith, s.low, r.room)
-
       pub next_seat : get_or path next 0 < length seats
       next_seat = omega (arith, next_in, s.placed.seats_room)
 
@@ -55,13 +49,6 @@ module _ (t : Tree) (u k : ℕ) (before from path : List ℕ) (m₀ : ℕ) (r : 
 
       pub next_order : m < length order
       next_order = omega (arith, next_place, s.placed.order_room)
-
-      -- so they fit
-      pub order_fits : m < length before
-      order_fits = omega (arith, next_order, s.order_same)
-
-      pub seat_fits : get_or path next 0 < length from
-      seat_fits = omega (arith, next_seat, s.seats_same)
 
       above_next : t.up (get_or path next 0) ≡ up_by t left u
       unfolding up_by
@@ -86,10 +73,13 @@ module _ (t : Tree) (u k : ℕ) (before from path : List ℕ) (m₀ : ℕ) (r : 
             end = rw (← at_next, seat_here seats (get_or path next 0) (suc m) next_seat) (omega arith);
           }
 
-      pub settling_more : Settling t before from u k path next (m + 1) (set order m (get_or path next 0)) (set seats (get_or path next 0) (m + 1))
+      pub settling_more :
+          (fewer more : ℕ)
+          → fewer ≡ next → more ≡ m + 1
+          → Settling t before from u k path fewer more (set order m (get_or path next 0)) (set seats (get_or path next 0) (m + 1))
       unfolding after
-      settling_more =
-          rw (add-one m)
+      settling_more fewer more e f =
+          rw (e, f, add-one m)
           (record {
             low = omega (arith, s.low);
             placed = placed-more t r.closed m order seats s.placed (get_or path next 0) next_in seat_none (rw above_next s.ahead.end);

@@ -4,7 +4,7 @@ use mathlib.Core.Bool.{Bool, true, false, not, ◌&&◌}
 use mathlib.Core.List.{List}
 use Prim.Native.Nat.{ℕ, suc, ◌<◌, ◌≤◌}
 use native.Mathlib.Omega.{arith}
-use lib.ListN.{length, get_or}
+use lib.ListN.{get_or}
 use borrow.Author.Tests.{ne_eqb}
 use Rattle.rows.specs.Count.{only_if}
 use Rattle.rows.proofs.Counting.{max_bound}
@@ -24,22 +24,12 @@ none_beside t x e = omega (arith, max_bound (λ u. only_if (beside t x u) (dist 
     go u true = omega arith
     go u false = omega arith
 
-module _ (t : Tree) (order : List ℕ) (n : ℕ) (b : Basis t order n) (before : List ℕ) where
+module _ (t : Tree) (order : List ℕ) (b : Basis t order) (before : List ℕ) where
   abbrev o : Order t order
   o = b.ordered
 
   abbrev pub Siding : ℕ → ℕ → Known → Type 0
   Siding = Split (Summed t) (Sided t) o.place
-
-  pub side_start : (row : List ℕ) → Held t.size before (Summed t) row → Walk t before 1 (Split (Summed t) (Sided t) o.place) n row
-  side_start row s =
-      record {
-        some = omega (arith, o.closed.root_in, b.nodes);
-        low = omega (arith, b.nodes);
-        held =
-            held_as t.size before (Summed t) row s (Siding n)
-            (λ u l z. record { below = λ h. z; above = λ h. absurd (omega (arith, o.within u l, b.nodes)) });
-      }
 
   module _ (i : ℕ) (row : List ℕ) (s : Walk t before 1 (Split (Summed t) (Sided t) o.place) i row) where
     room : (u : ℕ) → u < t.size → u < nodes_in row
@@ -51,9 +41,6 @@ module _ (t : Tree) (order : List ℕ) (n : ℕ) (b : Basis t order n) (before :
 
       below : next < t.size
       below = omega (arith, s.low)
-
-      pub side_read : next < length order
-      side_read = omega (arith, below, o.room)
 
       node_in : v < t.size
       node_in = o.node next below
@@ -117,9 +104,6 @@ module _ (t : Tree) (order : List ℕ) (n : ℕ) (b : Basis t order n) (before :
     module _ (last : i ≤ 1) where
       one : i ≡ 1
       one = omega (arith, s.some)
-
-      pub root_read : 0 < length order
-      root_read = side_read 0 one
 
       pub root-node : get_or order 0 0 < nodes_in row
       root-node = side_node 0 one

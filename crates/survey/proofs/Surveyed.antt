@@ -6,16 +6,12 @@ use mathlib.Core.List.{List}
 use Prim.Native.Nat.{ℕ, ◌<◌, ◌≤◌}
 use lib.ListN.{length}
 use borrow.Author.Tests.{leb-false, lt-leb}
-use Rattle.edition.specs.declared.Refusal.{Refusal}
-use Rattle.edition.specs.declared.Verdict.{Verdict}
-use Rattle.edition.specs.declared.Verdict.TheVariants.{Taken, Refused}
+use Rattle.edition.specs.Refusals.{Verdict, taken, if_taken}
 use Rattle.edition.specs.declared.Why.TheVariants.{BadRoot, BadParent, NoRoute}
 use Rattle.edition.specs.Limits.{memory_limits}
-use Rattle.edition.specs.Refusals.{if_taken}
 use Rattle.rows.specs.Count.{row_with}
 use Rattle.rows.specs.First.{refuse_at}
-use Rattle.rows.proofs.Refusing.{head_taken, rest-taken, both_taken, none_left, head_refuses, head_passes, if_taken_lem, if_passes}
-use Rattle.rows.proofs.Refusing.{at_taken, at_passes, only_one}
+use Rattle.rows.proofs.Refusing.{head_taken, rest-taken, both_taken, none_left, head_passes, if_taken_lem, if_passes, at_taken, at_passes, only_one}
 use Rattle.network.specs.Network.{Net}
 use Rattle.network.specs.Records.{bad_nodes, bad_root}
 use Rattle.tree.specs.Tree.{tree_of, dist}
@@ -25,7 +21,7 @@ use Rattle.survey.specs.Work.{Closed}
 
 module _ (g : Net) (room : ℕ) where
   -- what a walk may rely on
-  pub closed-taken : closed_verdict g room ≡ Taken → Closed (tree_of g) × (g.nodes ≤ room)
+  pub closed-taken : closed_verdict g room ≡ taken → Closed (tree_of g) × (g.nodes ≤ room)
   unfolding closed_verdict tree_of strays bad_root
   closed-taken h1 =
       let h2 = rest-taken _ _ h1 in
@@ -44,7 +40,7 @@ module _ (g : Net) (room : ℕ) where
   pub closed_passes :
       bad_nodes memory_limits g.nodes ≡ false
       → g.nodes ≤ room → bad_root g.nodes g.search.root ≡ false
-      → ((u : ℕ) → u < (tree_of g).size → (tree_of g).up u < (tree_of g).size) → closed_verdict g room ≡ Taken
+      → ((u : ℕ) → u < (tree_of g).size → (tree_of g).up u < (tree_of g).size) → closed_verdict g room ≡ taken
   unfolding closed_verdict tree_of strays
   closed_passes few wide root up_in =
       both_taken _ _ (room_passes _ _ few wide)
@@ -52,19 +48,13 @@ module _ (g : Net) (room : ℕ) where
       (both_taken _ _ (at_passes (strays (tree_of g)) g.nodes BadParent (λ u l. lt-leb g.nodes ((tree_of g).up u) (up_in u l))) none_left))
 
 module _ (g : Net) (row : List ℕ) (v : Verdict) (e : v ≡ closed_verdict g (length row)) where
-  pub survey_refused : (r : Refusal) → v ≡ Refused r → (v ≡ survey_verdict g row) × (row ≡ survey_row g row)
-  unfolding survey_verdict survey_row
-  survey_refused r q =
-      let whole = head_refuses (closed_verdict g (length row)) _ r (sym e ∙ q) in
-      (q ∙ sym whole, ap (λ (w : Verdict). if_taken w (row_with (dist (tree_of g)) g.nodes row) row) (sym whole))
-
   -- nothing but 8 is left
-  pub survey_is : v ≡ Taken → survey_verdict g row ≡ refuse_at (routeless (tree_of g)) g.nodes NoRoute
+  pub survey_is : v ≡ taken → survey_verdict g row ≡ refuse_at (routeless (tree_of g)) g.nodes NoRoute
   unfolding survey_verdict
   survey_is q = head_passes (closed_verdict g (length row)) _ (sym e ∙ q) ∙ only_one _
 
   pub survey_walked :
-      v ≡ Taken
+      v ≡ taken
       → (w : Verdict) (after : List ℕ)
       → (w ≡ refuse_at (routeless (tree_of g)) g.nodes NoRoute)
       × (after ≡ if_taken w (row_with (dist (tree_of g)) g.nodes row) row)

@@ -42,7 +42,7 @@ sided_known t x k s b r p q =
       beside = s.beside-is i;
     }
 
-module _ (t : Tree) (order : List ℕ) (n : ℕ) (b : Basis t order n) (before : List ℕ) where
+module _ (t : Tree) (order : List ℕ) (b : Basis t order) (before : List ℕ) where
   abbrev o : Order t order
   o = b.ordered
 
@@ -74,19 +74,16 @@ module _ (t : Tree) (order : List ℕ) (n : ℕ) (b : Basis t order n) (before :
           subst (λ (y : ℕ). known_at row u ≡ known t y) (sym top) (root_told (known_at row u) (subst (λ (y : ℕ). Sided t y (known_at row u)) top z))
 
   module _ (i : ℕ) (row : List ℕ) (s : Walk t before 1 (Split (Told t) (Sided t) o.place) i row) where
-    pub turn_end : n ≤ i → Held t.size before (Told t) row
+    pub turn_end : length order ≤ i → Held t.size before (Told t) row
     turn_end l =
         held_as t.size before (Turning i) row s.held (Told t) (λ u m z. z.below (omega (arith, o.within u m, b.nodes)))
 
-    module _ (l : i < n) where
+    module _ (l : i < length order) where
       abbrev v : ℕ
       v = get_or order i 0
 
       below : i < t.size
       below = omega (arith, b.nodes)
-
-      pub turn_read : i < length order
-      turn_read = omega (arith, below, o.room)
 
       node_in : v < t.size
       node_in = o.node i below

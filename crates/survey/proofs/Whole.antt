@@ -1,4 +1,5 @@
 -- All nodes in turn: either one has no route, and is the lowest such, or all have places. Assumes nothing.
+use Rattle.std.specs.Prelude.{None, Option, Some}
 use mathlib.Core.Path.{◌≡◌, refl, ◌∙◌}
 use mathlib.Core.Bool.{true, false}
 use mathlib.Core.List.{List}
@@ -6,14 +7,12 @@ use Prim.Native.Nat.{ℕ, suc, ◌+◌, ◌-◌, ◌<◌, ◌≤◌}
 use native.Mathlib.Numerals.{add-one}
 use native.Mathlib.Omega.{arith}
 use lib.ListN.{length, get_or}
-use Rattle.edition.specs.declared.Found.{Found}
-use Rattle.edition.specs.declared.Found.TheVariants.{Nothing, At}
 use Rattle.rows.specs.First.{first_to}
 use Rattle.rows.proofs.Tests.{lastly}
 use Rattle.rows.proofs.Best.{nowhere, here, first-is, first_unique}
 use Rattle.tree.specs.Tree.{Tree, has_route}
 use Rattle.survey.specs.Survey.{routeless}
-use Rattle.survey.specs.Work.{Closed, Order, free, Placed, Climbed, Ready, Settled}
+use Rattle.survey.specs.Work.{Closed, Order, free, Path, Placed, Ready, Settled}
 use Rattle.rows.proofs.Counting.{sum-none}
 use Rattle.survey.proofs.Placing.{free_some}
 
@@ -51,8 +50,8 @@ pub record Turning (t : Tree) (before from path₀ : List ℕ) (u m : ℕ) (orde
 
 -- what the function promises
 module _ (t : Tree) where
-  abbrev pub Answered : Found → List ℕ → Type 0
-  Answered r order = (r ≡ first_to (routeless t) t.size) × (r ≡ Nothing → Order t order)
+  abbrev pub Answered : Option ℕ → List ℕ → Type 0
+  Answered r order = (r ≡ first_to (routeless t) t.size) × (r ≡ None → Order t order)
 
 module _ (t : Tree) (closed : Closed t) (before from path₀ : List ℕ) where
   pub turning_start : Placed t 1 before from → Turning t before from path₀ 0 1 before from path₀
@@ -60,42 +59,39 @@ module _ (t : Tree) (closed : Closed t) (before from path₀ : List ℕ) where
       record { low = omega arith; placed = p; done = λ v l. absurd (omega arith); order_same = refl; seats_same = refl; path_same = refl }
 
   module _ (u m : ℕ) (order seats path : List ℕ) (s : Turning t before from path₀ u m order seats path) where
-    pub root_seated : 0 < get_or seats t.root 0
-    root_seated = omega (arith, s.placed.first)
-
     found-route : (v : ℕ) → v < u → routeless t v ≡ false
     unfolding routeless
     found-route v l = rw (s.placed.home v (omega (arith, s.low)) (s.done v l))
 
-    pub turning_end : t.size ≤ u → Answered t Nothing order
+    pub turning_end : t.size ≤ u → Answered t None order
     turning_end l = (
       first_unique (routeless t) t.size (nowhere (λ v k. found-route v (omega arith))) (first-is (routeless t) t.size),
       λ e. ordered t m order seats s.placed (λ v k. s.done v (omega arith)) closed,
     )
 
-    module _ (k : ℕ) (path' : List ℕ) (same : length path' ≡ length path) (c : Climbed t seats u k path') (l : u < t.size) where
+    module _ (path' : List ℕ) (same : length path' ≡ length path) (l : u < t.size) where
       none_at : has_route t u ≡ false → routeless t u ≡ true
       unfolding routeless
       none_at e = rw e
 
-      pub turning_lost : k ≡ t.size → Answered t (At u) order
+      pub turning_lost : has_route t u ≡ false → Answered t (Some u) order
       turning_lost e = (
-        first_unique (routeless t) t.size (here l (none_at (c.lost e)) found-route) (first-is (routeless t) t.size),
+        first_unique (routeless t) t.size (here l (none_at e) found-route) (first-is (routeless t) t.size),
         λ z. absurd (never z),
       )
         where
-          never : At u ≡ Nothing → ⊥
+          never : Some u ≡ None → ⊥
           never z = let no : ◌≡◌ {A = ℕ} 0 1 = cc in omega arith
 
-      module _ (go_on : k ≡ t.size → ⊥) (room : t.size ≤ length path₀) where
+      module _ (k : ℕ) (c : (k < t.size) × Path t seats u k path') (room : t.size ≤ length path₀) where
         pub turning_ready : Ready t u k m order seats path'
         turning_ready =
             record {
               closed = closed;
               placed = s.placed;
-              ahead = c.found (omega (arith, c.low));
+              ahead = c.1;
               node = l;
-              room = omega (arith, c.low, s.path_same);
+              room = omega (arith, c.0, same, s.path_same);
             }
 
         pub turning_more :

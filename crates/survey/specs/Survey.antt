@@ -1,9 +1,8 @@
 -- What is refused before and by a walk over all nodes, parents first, and the row that it leaves: of distances, or of a record a
 -- node. Assumes nothing.
 use Rattle.std.specs.Prelude.{Bool, not, List, [], ◌∷◌, ◌++◌, ℕ, leb, length}
-use Rattle.edition.specs.declared.Verdict.{Verdict}
+use Rattle.edition.specs.Refusals.{Verdict, if_taken}
 use Rattle.edition.specs.declared.Why.TheVariants.{BadRoot, BadParent, NoRoute}
-use Rattle.edition.specs.Refusals.{if_taken}
 use Rattle.rows.specs.Count.{row_with, rows_to}
 use Rattle.rows.specs.First.{refuse_if, refuse_at, firstly}
 use Rattle.network.specs.Network.{Net}

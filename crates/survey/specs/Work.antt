@@ -1,5 +1,6 @@
 -- What private functions of this crate promise each other. No public promise cites this page. Assumes nothing.
-use Rattle.std.specs.Prelude.{◌≡◌, Bool, true, false, cond, not, ◌&&◌, List, ℕ, zero, suc, ◌+◌, ◌*◌, ◌-◌, ◌^◌, ◌<◌, ◌≤◌, max, eqb, ltb, length, get_or}
+use Rattle.std.specs.Prelude.{◌≡◌, Bool, true, false, cond, not, ◌&&◌, List, ℕ, zero, suc, ◌+◌, ◌*◌, ◌-◌, ◌^◌, ◌<◌, ◌≤◌, max, eqb, ltb, length, get_or, Option}
+use Rattle.std.specs.Prelude.{Some, None}
 use Rattle.edition.specs.Limits.{node_limit, longest}
 use Rattle.rows.specs.Count.{sum_to, only_if}
 use Rattle.tree.specs.Tree.{Tree, has_route, dist}
@@ -63,11 +64,10 @@ pub record Path (t : Tree) (seats : List ℕ) (u k : ℕ) (path : List ℕ) : Ty
   pub free : (j : ℕ) → j < k → get_or seats (up_by t j u) 0 ≡ 0
   pub end : 0 < get_or seats (up_by t k u) 0
 
--- a climb from u that has come to a place, or of as many steps as there are nodes
-pub record Climbed (t : Tree) (seats : List ℕ) (u k : ℕ) (path : List ℕ) : Type 0 where
-  pub low : k ≤ t.size
-  pub found : k < t.size → Path t seats u k path
-  pub lost : k ≡ t.size → has_route t u ≡ false
+-- a climb from u to the first node that has a place, of fewer steps than there are nodes; none where u has no route
+abbrev pub Climbed : Tree → List ℕ → ℕ → Option ℕ → List ℕ → Type 0
+Climbed t seats u None path = has_route t u ≡ false
+Climbed t seats u (Some k) path = (k < t.size) × Path t seats u k path
 
 -- m nodes have places, and a path of k nodes from u up to one of them stands in the row
 pub record Ready (t : Tree) (u k m : ℕ) (order seats path : List ℕ) : Type 0 where
@@ -91,9 +91,9 @@ pub record Next (t : Tree) (f : ℕ → ℕ) (row : List ℕ) (v : ℕ) : Type 0
   pub up-node : t.up v < t.size
   pub up_is : (v ≡ t.root → ⊥) → get_or row (t.up v) 0 ≡ f (t.up v)
 
--- what the walks over records rely on: an order of n nodes, a root that is its own parent, and lengths of 16 bits
-pub record Basis (t : Tree) (order : List ℕ) (n : ℕ) : Type 0 where
-  pub nodes : n ≡ t.size
+-- what the walks over records rely on: an order of the nodes and no more, a root that is its own parent, and lengths of 16 bits
+pub record Basis (t : Tree) (order : List ℕ) : Type 0 where
+  pub nodes : length order ≡ t.size
   pub ordered : Order t order
   pub top : t.up t.root ≡ t.root
   pub flat : t.rise t.root ≡ 0

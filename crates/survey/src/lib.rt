@@ -2,23 +2,23 @@
 // distances, and all that a search wants to know of each node, in O(n).
 #![tactic(auto)]
 
-ghost use Rattle.std.specs.Prelude.{◌≡◌, List, ◌++◌, ℕ, ◌+◌, ◌*◌, ◌^◌, ◌<◌, ◌≤◌, max, length, get_or};
+ghost use Rattle.std.specs.Prelude.{◌≡◌, List, ◌++◌, ℕ, ◌+◌, ◌^◌, ◌<◌, ◌≤◌, length, get_or};
 ghost use Rattle.edition.specs.Limits.{node_limit};
 ghost use Rattle.edition.specs.Refusals.{if_taken};
-ghost use Rattle.edition.specs.declared.Found.TheVariants.{Nothing};
 ghost use Rattle.edition.specs.declared.Why.TheVariants.{NoRoute};
 ghost use Rattle.rows.specs.Count.{row_with, rows_to};
 ghost use Rattle.rows.specs.First.{first_to, refuse_at};
-ghost use Rattle.network.specs.Network.{net_of};
+ghost use Rattle.network.specs.Network.{lent};
 ghost use Rattle.tree.specs.Tree.{Tree, tree_of, dist};
 ghost use Rattle.survey.specs.Known.{known};
 ghost use Rattle.survey.specs.Row.{nodes_in, known_row, known_at, put_known, past_known};
 ghost use Rattle.survey.specs.Survey.{strays, routeless, closed_verdict, survey_verdict, survey_row, surveyed_verdict, surveyed_row};
 ghost use Rattle.survey.specs.Work.{Closed, Order, Placed, Climbed, Fresh, Ready, Settled, Next};
 ghost use Rattle.survey.specs.Work.{Basis, Held, Under, Begun, Summed, Sided, Told, Adds, Turns};
-ghost use Rattle.survey.specs.Work.{lower, without, with_child, with_aside, with_beside, with_turn, turned};
+ghost use Rattle.survey.specs.Work.{lower, without, with_child, with_aside, with_beside, with_turn};
 
-use edition::{Found, Memory, Search, Verdict, Why};
+use edition::{Memory, Refusal, Search, Why};
+use network::Network;
 
 // What is known of a node: its parent; d of it; of its T how many nodes that has, the two numbers by which a sum is known, and the
 // largest d; and the largest d in T of the parent and not in its own.
@@ -78,37 +78,27 @@ fn put_known(row: &mut [u64], x: usize, k: Known)
     row[at + 6] = k.beside;
 }
 
-// The nodes from u up to the first that has a seat, written into the row: how many they are. As many as there are nodes, where
-// u has no route.
+// The nodes from u up to the first that has a seat, written into the row: how many they are; none where u has no route.
 #[tactic(auto, unfolding(tree::specs::Tree::tree_of, network::specs::Network::net_of))]
-fn climb_free(
-    links: &[u16],
-    parents: &[u16],
-    search: Search,
-    seats: &[u16],
-    path: &mut [u16],
-    u: usize,
-) -> usize
-    requires { let g = net_of links.now parents.now search in
+fn climb_free(net: Network, seats: &[u16], path: &mut [u16], u: usize) -> Option<usize>
+    requires { let g = lent net in
         Closed (tree_of g)
-        × (length parents.now ≤ length seats.now)
-        × (length parents.now ≤ length path.old)
-        × (u < length parents.now)
-        × (0 < get_or seats.now search.root 0) }
-    ensures { let g = net_of links.now parents.now search in
+        × (length net.parents.now ≤ length seats.now)
+        × (length net.parents.now ≤ length path.old)
+        × (u < length net.parents.now)
+        × (0 < get_or seats.now net.search.root 0) }
+    ensures { let g = lent net.entry in
         Climbed (tree_of g) seats.now u result path.new }
 {
     let mut v = u;
-    let mut k = 0;
-    while k < parents.len() {
+    for k in 0..net.parents.len() {
         if seats[v] != 0 {
-            return k;
+            return Some(k);
         }
         path[k] = v as u16;
-        v = tree::up(links, parents, search, v);
-        k += 1;
+        v = tree::up(net, v);
     }
-    k
+    None
 }
 
 // The nodes of a path get places, the last one first: how many nodes have places then.
@@ -118,16 +108,12 @@ fn settle(order: &mut [u16], seats: &mut [u16], path: &[u16], k: usize, m: usize
         → Ready t u k m order.old seats.old path.now
         → Settled t seats.old u result order.new seats.new }
 {
-    let mut left = k;
-    let mut count = m;
-    while left > 0 {
-        left -= 1;
-        let v = path[left];
-        order[count] = v;
-        seats[v as usize] = (count + 1) as u16;
-        count += 1;
+    for i in 0..k {
+        let v = path[k - 1 - i];
+        order[m + i] = v;
+        seats[v as usize] = (m + i + 1) as u16;
     }
-    count
+    m + k
 }
 
 // The root gets the first place, where no node has one.
@@ -143,161 +129,132 @@ fn begin(root: u16, order: &mut [u16], seats: &mut [u16])
 
 // Each node gets a place, up to the first that has no route.
 #[tactic(auto, unfolding(tree::specs::Tree::tree_of, network::specs::Network::net_of))]
-fn place_all(
-    links: &[u16],
-    parents: &[u16],
-    search: Search,
-    order: &mut [u16],
-    seats: &mut [u16],
-    path: &mut [u16],
-) -> Found
-    requires { let g = net_of links.now parents.now search in
+fn place_all(net: Network, order: &mut [u16], seats: &mut [u16], path: &mut [u16]) -> Option<usize>
+    requires { let g = lent net in
         Closed (tree_of g)
         × Placed (tree_of g) 1 order.old seats.old
-        × (length parents.now ≤ length path.old) }
-    ensures { let g = net_of links.now parents.now search in
-        (result ≡ first_to (routeless (tree_of g)) (length parents.now))
-        × (result ≡ Nothing → Order (tree_of g) order.new) }
+        × (length net.parents.now ≤ length path.old) }
+    ensures { let g = lent net.entry in
+        (result ≡ first_to (routeless (tree_of g)) (length net.entry.parents.now))
+        × (result ≡ None → Order (tree_of g) order.new) }
 {
     let mut m = 1;
-    let mut u = 0;
-    while u < parents.len() {
-        let k = climb_free(links, parents, search, seats, path, u);
-        if k == parents.len() {
-            return Found::At(u);
-        }
+    for u in 0..net.parents.len() {
+        let Some(k) = climb_free(net, seats, path, u) else {
+            return Some(u);
+        };
         m = settle(order, seats, path, k, m);
-        u += 1;
     }
-    Found::Nothing
+    None
 }
 
 // The nodes in an order in which the root comes first and each parent before its children, in the first n numbers of a row. Where
 // a node has no route: the lowest such node.
 #[tactic(auto, unfolding(tree::specs::Tree::tree_of, network::specs::Network::net_of))]
-fn in_order(links: &[u16], parents: &[u16], search: Search, order: &mut [u16]) -> Found
-    requires { let g = net_of links.now parents.now search in
+fn in_order(net: Network, order: &mut [u16]) -> Option<usize>
+    requires { let g = lent net in
         Closed (tree_of g)
-        × (length parents.now ≤ length order.old) }
-    ensures { let g = net_of links.now parents.now search in
-        (result ≡ first_to (routeless (tree_of g)) (length parents.now))
-        × (result ≡ Nothing → Order (tree_of g) order.new) }
+        × (length net.parents.now ≤ length order.old) }
+    ensures { let g = lent net.entry in
+        (result ≡ first_to (routeless (tree_of g)) (length net.entry.parents.now))
+        × (result ≡ None → Order (tree_of g) order.new) }
 {
     let mut seats = [0u16; Memory::NODES];
     let mut path = [0u16; Memory::NODES];
-    begin(search.root, order, &mut seats);
-    place_all(links, parents, search, order, &mut seats, &mut path)
+    begin(net.search.root, order, &mut seats);
+    place_all(net, order, &mut seats, &mut path)
 }
 
 // d(v), from that of its parent.
-fn next_distance(links: &[u16], parents: &[u16], search: Search, row: &[u64], v: usize) -> u64
-    requires { let g = net_of links.now parents.now search in
+fn next_distance(net: Network, row: &[u64], v: usize) -> u64
+    requires { let g = lent net in
         Next (tree_of g) (dist (tree_of g)) row.now v
-        × (length parents.now ≤ node_limit) }
-    ensures { let g = net_of links.now parents.now search in
+        × (length net.parents.now ≤ node_limit) }
+    ensures { let g = lent net.entry in
         result ≡ dist (tree_of g) v }
 {
-    if v == search.root as usize {
+    if v == net.search.root as usize {
         return 0;
     }
-    let p = tree::up(links, parents, search, v);
-    let more = tree::rise(links, parents, search, v);
+    let p = tree::up(net, v);
+    let more = tree::rise(net, v);
     row[p] + more as u64
 }
 
 // Writes d(u) of every node, in that order.
 #[tactic(auto, unfolding(tree::specs::Tree::tree_of, network::specs::Network::net_of))]
-fn fill_distances(links: &[u16], parents: &[u16], search: Search, order: &[u16], row: &mut [u64])
-    requires { let g = net_of links.now parents.now search in
+fn fill_distances(net: Network, order: &[u16], row: &mut [u64])
+    requires { let g = lent net in
         Order (tree_of g) order.now
-        × (length parents.now ≤ length row.old) }
-    ensures { let g = net_of links.now parents.now search in
-        row.new ≡ row_with (dist (tree_of g)) (length parents.now) row.old }
+        × (length order.now ≡ length net.parents.now)
+        × (length net.parents.now ≤ length row.old) }
+    ensures { let g = lent net.entry in
+        row.new ≡ row_with (dist (tree_of g)) (length net.entry.parents.now) row.old }
 {
-    let mut i = 0;
-    while i < parents.len() {
-        let v = order[i] as usize;
-        let d = next_distance(links, parents, search, row, v);
-        row[v] = d;
-        i += 1;
+    for v in order {
+        row[*v as usize] = next_distance(net, row, *v as usize);
     }
 }
 
 // Refusal 8, or d(u) of every node.
 #[tactic(auto, unfolding(tree::specs::Tree::tree_of, network::specs::Network::net_of))]
-fn walk(links: &[u16], parents: &[u16], search: Search, row: &mut [u64]) -> Verdict
-    requires { let g = net_of links.now parents.now search in
+fn walk(net: Network, row: &mut [u64]) -> Result<(), Refusal>
+    requires { let g = lent net in
         Closed (tree_of g)
-        × (length parents.now ≤ length row.old) }
-    ensures { let g = net_of links.now parents.now search in
-        let new = row_with (dist (tree_of g)) (length parents.now) row.old in
-        (result ≡ refuse_at (routeless (tree_of g)) (length parents.now) NoRoute)
+        × (length net.parents.now ≤ length row.old) }
+    ensures { let g = lent net.entry in
+        let new = row_with (dist (tree_of g)) (length net.entry.parents.now) row.old in
+        (result ≡ refuse_at (routeless (tree_of g)) (length net.entry.parents.now) NoRoute)
         × (row.new ≡ if_taken result new row.old) }
 {
     let mut order = [0u16; Memory::NODES];
-    let found = in_order(links, parents, search, &mut order);
-    let Found::Nothing = found else {
+    let found = in_order(net, &mut order);
+    let None = found else {
         return rows::refused_at(Why::NoRoute, found);
     };
-    fill_distances(links, parents, search, &order, row);
-    Verdict::Taken
+    fill_distances(net, &order[..net.parents.len()], row);
+    Ok(())
 }
 
 // The lowest node whose parent is no node.
 #[tactic(auto, unfolding(crate::specs::Survey::strays, tree::specs::Tree::tree_of, network::specs::Network::net_of))]
-fn first_stray(links: &[u16], parents: &[u16], search: Search) -> Found
-    ensures { let g = net_of links.now parents.now search in
-        result ≡ first_to (strays (tree_of g)) (length parents.now) }
+fn first_stray(net: Network) -> Option<usize>
+    ensures { let g = lent net.entry in
+        result ≡ first_to (strays (tree_of g)) (length net.entry.parents.now) }
 {
-    let mut found = Found::Nothing;
-    let mut u = 0;
-    while u < parents.len() {
-        let p = tree::up(links, parents, search, u);
-        found = rows::or_here(found, parents.len() <= p, u);
-        u += 1;
-    }
-    found
+    rows::lowest(net.parents.len(), |u| net.parents.len() <= tree::up(net, u))
 }
 
 // What a walk needs: refusals 1 and 10, 3, and 7 where a node's parent is no node.
 #[tactic(auto, unfolding(crate::specs::Survey::closed_verdict, rows::specs::First::firstly, network::specs::Network::net_of, rows::specs::First::refuse_at))]
-fn check_closed(links: &[u16], parents: &[u16], search: Search, room: usize) -> Verdict
-    ensures { let g = net_of links.now parents.now search in
+fn check_closed(net: Network, room: usize) -> Result<(), Refusal>
+    ensures { let g = lent net.entry in
         result ≡ closed_verdict g room }
 {
-    let row = tree::check_row(parents.len(), room);
-    let Verdict::Taken = row else {
-        return row;
-    };
-    let root = network::check_root(parents.len(), search.root);
-    let Verdict::Taken = root else {
-        return root;
-    };
-    rows::refused_at(Why::BadParent, first_stray(links, parents, search))
+    tree::check_row(net.parents.len(), room)?;
+    network::check_root(net.parents.len(), net.search.root)?;
+    rows::refused_at(Why::BadParent, first_stray(net))
 }
 
 // d(u) of every node, into a lent row of at least n numbers, in O(n). Refusals 1, 10, 3, 7 where a node's parent is no node, and 8.
-#[tactic(auto, unfolding(network::specs::Network::net_of))]
-pub fn distances(links: &[u16], parents: &[u16], search: Search, row: &mut [u64]) -> Verdict
-    ensures { let g = net_of links.now parents.now search in
+#[tactic(auto, unfolding(crate::specs::Survey::survey_verdict, crate::specs::Survey::survey_row, rows::specs::First::firstly, network::specs::Network::net_of))]
+pub fn distances(net: Network, row: &mut [u64]) -> Result<(), Refusal>
+    ensures { let g = lent net.entry in
         (result ≡ survey_verdict g row.old)
         × (row.new ≡ survey_row g row.old) }
 {
-    let closed = check_closed(links, parents, search, row.len());
-    let Verdict::Taken = closed else {
-        return closed;
-    };
-    walk(links, parents, search, row)
+    check_closed(net, row.len())?;
+    walk(net, row)
 }
 
 // What node v knows of itself, and of its parent.
-fn begun_at(links: &[u16], parents: &[u16], search: Search, row: &[u64], v: usize) -> Known
-    requires { let g = net_of links.now parents.now search in
+fn begun_at(net: Network, row: &[u64], v: usize) -> Known
+    requires { let g = lent net in
         Under (tree_of g) row.now v }
-    ensures { let g = net_of links.now parents.now search in
+    ensures { let g = lent net.entry in
         Begun (tree_of g) v result }
 {
-    if v == search.root as usize {
+    if v == net.search.root as usize {
         return Known {
             up: v as u64,
             near: 0,
@@ -308,8 +265,8 @@ fn begun_at(links: &[u16], parents: &[u16], search: Search, row: &[u64], v: usiz
             beside: 0,
         };
     }
-    let e = network::parent_of(parents, v);
-    let l = network::link_at(links, e as usize);
+    let e = network::parent_of(net.parents, v);
+    let l = network::link_at(net.links, e as usize);
     let p = network::other_end(l, v);
     let above = known_at(row, p);
     let d = above.near + l.length as u64;
@@ -326,67 +283,48 @@ fn begun_at(links: &[u16], parents: &[u16], search: Search, row: &[u64], v: usiz
 
 // Parents first: every node's own record.
 #[tactic(auto, unfolding(tree::specs::Tree::tree_of, network::specs::Network::net_of))]
-fn walk_down(links: &[u16], parents: &[u16], search: Search, order: &[u16], row: &mut [u64])
-    requires { let g = net_of links.now parents.now search in
+fn walk_down(net: Network, order: &[u16], row: &mut [u64])
+    requires { let g = lent net in
         Order (tree_of g) order.now
-        × (length parents.now ≤ nodes_in row.old) }
-    ensures { let g = net_of links.now parents.now search in
-        Held (length parents.now) row.old (Begun (tree_of g)) row.new }
+        × (length order.now ≡ length net.parents.now)
+        × (length net.parents.now ≤ nodes_in row.old) }
+    ensures { let g = lent net.entry in
+        Held (length net.entry.parents.now) row.old (Begun (tree_of g)) row.new }
 {
-    let mut i = 0;
-    while i < parents.len() {
-        let v = order[i] as usize;
-        let k = begun_at(links, parents, search, row, v);
-        put_known(row, v, k);
-        i += 1;
+    for v in order {
+        let k = begun_at(net, row, *v as usize);
+        put_known(row, *v as usize, k);
     }
-}
-
-// The larger of two numbers.
-fn larger(a: u64, b: u64) -> u64
-    ensures { result ≡ max a b }
-{
-    if a < b {
-        return b;
-    }
-    a
 }
 
 // Of the two largest of some numbers the lower one, once a number is added.
+#[tactic(auto, unfolding(crate::specs::Work::lower))]
 fn lower_of(first: u64, next: u64, new: u64) -> u64
     ensures { result ≡ lower first next new }
 {
-    if first < new {
-        return first;
-    }
-    larger(next, new)
+    if first < new { first } else { next.max(new) }
 }
 
 // The largest of some numbers without one that is d, from the two largest.
+#[tactic(auto, unfolding(crate::specs::Work::without))]
 fn largest_but(first: u64, next: u64, d: u64) -> u64
     ensures { result ≡ without first next d }
 {
-    if d == first {
-        return next;
-    }
-    first
+    if d == first { next } else { first }
 }
 
 // A parent's record once a child's is added to it.
+#[tactic(auto, unfolding(crate::specs::Work::with_child))]
 fn with_child(p: Known, v: Known) -> Known
     requires { (p.count + v.count < 2 ^ 64) × (p.base + v.base < 2 ^ 64) }
     ensures { result ≡ with_child p v }
 {
-    let deep = larger(p.deep, v.deep);
-    let beside = lower_of(p.deep, p.beside, v.deep);
     Known {
-        up: p.up,
-        near: p.near,
         count: p.count + v.count,
         base: p.base + v.base,
-        turn: p.turn,
-        deep,
-        beside,
+        deep: p.deep.max(v.deep),
+        beside: lower_of(p.deep, p.beside, v.deep),
+        ..p
     }
 }
 
@@ -404,38 +342,20 @@ fn add_to_parent(row: &mut [u64], x: usize)
 }
 
 // Children first: sums and largest values of T(x).
-fn walk_up(order: &[u16], n: usize, row: &mut [u64])
-    requires { (t : Tree) × (before : List ℕ) × Basis t order.now n × Held t.size before (Begun t) row.old }
+fn walk_up(order: &[u16], row: &mut [u64])
+    requires { (t : Tree) × (before : List ℕ) × Basis t order.now × Held t.size before (Begun t) row.old }
     ensures { (t : Tree) (before : List ℕ)
-        → Basis t order.now n
+        → Basis t order.now
         → Held t.size before (Begun t) row.old
         → Held t.size before (Summed t) row.new }
 {
-    let mut i = n;
-    while i > 1 {
-        i -= 1;
-        let x = order[i] as usize;
-        add_to_parent(row, x);
-    }
-}
-
-// A record with another number of what is beside.
-#[tactic(auto, unfolding(crate::specs::Work::with_aside))]
-fn with_aside(v: Known, d: u64) -> Known
-    ensures { result ≡ with_aside v d }
-{
-    Known {
-        up: v.up,
-        near: v.near,
-        count: v.count,
-        base: v.base,
-        turn: v.turn,
-        deep: v.deep,
-        beside: d,
+    for i in (1..order.len()).rev() {
+        add_to_parent(row, order[i] as usize);
     }
 }
 
 // Writes what is beside x, from its parent's two largest.
+#[tactic(auto, unfolding(crate::specs::Work::with_beside, crate::specs::Work::with_aside))]
 fn put_beside(row: &mut [u64], x: usize)
     requires { (x < nodes_in row.old) × ((known_at row.old x).up < nodes_in row.old) }
     ensures { let old = row.old in
@@ -443,63 +363,44 @@ fn put_beside(row: &mut [u64], x: usize)
 {
     let v = known_at(row, x);
     let p = known_at(row, v.up as usize);
-    let d = largest_but(p.deep, p.beside, v.deep);
-    put_known(row, x, with_aside(v, d));
+    let beside = largest_but(p.deep, p.beside, v.deep);
+    put_known(row, x, Known { beside, ..v });
 }
 
 // Nothing is beside the root.
+#[tactic(auto, unfolding(crate::specs::Work::with_aside))]
 fn clear_beside(row: &mut [u64], x: usize)
     requires { x < nodes_in row.old }
     ensures { let old = row.old in
         row.new ≡ put_known old x (with_aside (known_at old x) 0) }
 {
     let v = known_at(row, x);
-    put_known(row, x, with_aside(v, 0));
+    put_known(row, x, Known { beside: 0, ..v });
 }
 
 // Children first, since a parent's two largest are still in its record: what is beside each node.
-fn walk_beside(order: &[u16], n: usize, row: &mut [u64])
-    requires { (t : Tree) × (before : List ℕ) × Basis t order.now n × Held t.size before (Summed t) row.old }
+fn walk_beside(order: &[u16], row: &mut [u64])
+    requires { (t : Tree) × (before : List ℕ) × Basis t order.now × Held t.size before (Summed t) row.old }
     ensures { (t : Tree) (before : List ℕ)
-        → Basis t order.now n
+        → Basis t order.now
         → Held t.size before (Summed t) row.old
         → Held t.size before (Sided t) row.new }
 {
-    let mut i = n;
-    while i > 1 {
-        i -= 1;
-        let x = order[i] as usize;
-        put_beside(row, x);
+    for i in (1..order.len()).rev() {
+        put_beside(row, order[i] as usize);
     }
-    let root = order[0] as usize;
-    clear_beside(row, root);
-}
-
-// Twice a product.
-fn twice(a: u64, b: u64) -> u64
-    requires { 2 * (a * b) < 2 ^ 64 }
-    ensures { result ≡ 2 * (a * b) }
-{
-    2 * (a * b)
+    clear_beside(row, order[0] as usize);
 }
 
 // A node's record with the two numbers by which a sum is known.
-#[tactic(auto, unfolding(crate::specs::Work::turned))]
+#[tactic(auto, unfolding(crate::specs::Work::with_turn, crate::specs::Work::turned))]
 fn with_turn(v: Known, p: Known) -> Known
     requires { Turns v p }
     ensures { result ≡ with_turn v p }
 {
-    let turn = p.turn + twice(v.count, v.near - p.near);
-    let base = v.base + turn - twice(v.count, v.near);
-    Known {
-        up: v.up,
-        near: v.near,
-        count: v.count,
-        base,
-        turn,
-        deep: v.deep,
-        beside: v.beside,
-    }
+    let turn = p.turn + 2 * (v.count * (v.near - p.near));
+    let base = v.base + turn - 2 * (v.count * v.near);
+    Known { base, turn, ..v }
 }
 
 // Writes these two numbers of x, from its parent's.
@@ -516,69 +417,64 @@ fn put_turn(row: &mut [u64], x: usize)
 }
 
 // Parents first: the two numbers by which a sum is known.
-fn walk_turns(order: &[u16], n: usize, row: &mut [u64])
-    requires { (t : Tree) × (before : List ℕ) × Basis t order.now n × Held t.size before (Sided t) row.old }
+fn walk_turns(order: &[u16], row: &mut [u64])
+    requires { (t : Tree) × (before : List ℕ) × Basis t order.now × Held t.size before (Sided t) row.old }
     ensures { (t : Tree) (before : List ℕ)
-        → Basis t order.now n
+        → Basis t order.now
         → Held t.size before (Sided t) row.old
         → Held t.size before (Told t) row.new }
 {
-    let mut i = 1;
-    while i < n {
-        let x = order[i] as usize;
-        put_turn(row, x);
-        i += 1;
+    for i in 1..order.len() {
+        put_turn(row, order[i] as usize);
     }
 }
 
 // Writes what is known of every node, in that order.
 #[tactic(auto, unfolding(tree::specs::Tree::tree_of, network::specs::Network::net_of))]
-fn write_known(links: &[u16], parents: &[u16], search: Search, order: &[u16], row: &mut [u64])
-    requires { let g = net_of links.now parents.now search in
+fn write_known(net: Network, order: &[u16], row: &mut [u64])
+    requires { let g = lent net in
         Order (tree_of g) order.now
-        × (length parents.now ≤ nodes_in row.old) }
-    ensures { let g = net_of links.now parents.now search in
-        let n = length parents.now in
+        × (length order.now ≡ length net.parents.now)
+        × (length net.parents.now ≤ nodes_in row.old) }
+    ensures { let g = lent net.entry in
+        let n = length net.entry.parents.now in
         row.new ≡ rows_to (λ x. known_row (known (tree_of g) x)) n ++ past_known n row.old }
 {
-    walk_down(links, parents, search, order, row);
-    walk_up(order, parents.len(), row);
-    walk_beside(order, parents.len(), row);
-    walk_turns(order, parents.len(), row);
+    walk_down(net, order, row);
+    walk_up(order, row);
+    walk_beside(order, row);
+    walk_turns(order, row);
 }
 
 // Refusal 8, or what is known of every node.
 #[tactic(auto, unfolding(tree::specs::Tree::tree_of, network::specs::Network::net_of))]
-fn know_all(links: &[u16], parents: &[u16], search: Search, row: &mut [u64]) -> Verdict
-    requires { let g = net_of links.now parents.now search in
+fn know_all(net: Network, row: &mut [u64]) -> Result<(), Refusal>
+    requires { let g = lent net in
         Closed (tree_of g)
-        × (length parents.now ≤ nodes_in row.old) }
-    ensures { let g = net_of links.now parents.now search in
-        let n = length parents.now in
+        × (length net.parents.now ≤ nodes_in row.old) }
+    ensures { let g = lent net.entry in
+        let n = length net.entry.parents.now in
         let new = rows_to (λ x. known_row (known (tree_of g) x)) n ++ past_known n row.old in
         (result ≡ refuse_at (routeless (tree_of g)) n NoRoute)
         × (row.new ≡ if_taken result new row.old) }
 {
     let mut order = [0u16; Memory::NODES];
-    let lost = in_order(links, parents, search, &mut order);
-    let Found::Nothing = lost else {
+    let lost = in_order(net, &mut order);
+    let None = lost else {
         return rows::refused_at(Why::NoRoute, lost);
     };
-    write_known(links, parents, search, &order, row);
-    Verdict::Taken
+    write_known(net, &order[..net.parents.len()], row);
+    Ok(())
 }
 
 // What is known of every node, into a lent row of a record a node, in O(n). Refusals 1, 10, 3, 7 where a node's parent is no node,
 // and 8.
-#[tactic(auto, unfolding(network::specs::Network::net_of))]
-pub fn fill(links: &[u16], parents: &[u16], search: Search, row: &mut [u64]) -> Verdict
-    ensures { let g = net_of links.now parents.now search in
+#[tactic(auto, unfolding(crate::specs::Survey::surveyed_verdict, crate::specs::Survey::surveyed_row, rows::specs::First::firstly, network::specs::Network::net_of))]
+pub fn fill(net: Network, row: &mut [u64]) -> Result<(), Refusal>
+    ensures { let g = lent net.entry in
         (result ≡ surveyed_verdict g row.old)
         × (row.new ≡ surveyed_row g row.old) }
 {
-    let fit = check_closed(links, parents, search, row.len() / WIDTH);
-    let Verdict::Taken = fit else {
-        return fit;
-    };
-    know_all(links, parents, search, row)
+    check_closed(net, row.len() / WIDTH)?;
+    know_all(net, row)
 }

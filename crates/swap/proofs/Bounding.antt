@@ -1,13 +1,12 @@
 -- In every sound network incr and max are at most 33,488,385 and sum at most 17,112,564,735. Lengths are 16-bit numbers, which
 -- the laws take as their one hypothesis beside soundness. Assumes nothing.
+use Rattle.std.specs.Prelude.{None, Option, Some}
 use mathlib.Core.Path.{◌≡◌, refl}
 use mathlib.Core.Bool.{Bool, true, false}
 use Prim.Native.Nat.{ℕ, ◌-◌, ◌<◌, ◌≤◌}
 use native.Mathlib.Omega.{arith}
 use lib.Dec.{eqb}
 use borrow.Author.Tests.{eqb-false}
-use Rattle.edition.specs.declared.Found.{Found}
-use Rattle.edition.specs.declared.Found.TheVariants.{Nothing, At}
 use Rattle.edition.specs.declared.Measure.{Measure}
 use Rattle.edition.specs.declared.Measure.TheVariants.{Sum, Incr, Max}
 use Rattle.edition.specs.Limits.{longest, way_limit, sum_limit}
@@ -88,10 +87,10 @@ module _ (g : Net) (s : Sound g) (held : (e : ℕ) → (g.link e).length ≤ lon
 
   -- so is every cost of an entry
   module _ (x : ℕ) (far : eqb x g.search.root ≡ false) (m : Measure) where
-    priced_bound : (f : Found) → best m g x ≡ f → (priced m g x f).cost ≤ limit_of m
+    priced_bound : (f : Option ℕ) → best m g x ≡ f → (priced m g x f).cost ≤ limit_of m
     unfolding priced cost_of
-    priced_bound Nothing q = omega arith
-    priced_bound (At e) q =
+    priced_bound None q = omega arith
+    priced_bound (Some e) q =
         let b = chosen m g x e q in
         cost_bound x far e b.low (candidate-crosses g x e b.stands) m
 

@@ -1,5 +1,6 @@
 -- The best swap link: it is a candidate, no candidate costs less; under tie rule 1 none of equal cost has a lower incr cost; and of those
 -- that are left none has a lower number. There is only one such; nothing is found exactly where no link is a candidate. Assumes nothing.
+use Rattle.std.specs.Prelude.{None, Option, Some}
 use mathlib.Core.Path.{◌≡◌, refl, sym, subst, ap}
 use mathlib.Core.Bool.{Bool, true, false, cond}
 use mathlib.Core.List.{List, [], ◌∷◌}
@@ -8,8 +9,6 @@ use native.Mathlib.Omega.{arith}
 use lib.Dec.{eqb}
 use lib.ListN.{get_or}
 use borrow.Author.Tests.{eqb-true, eqb-false}
-use Rattle.edition.specs.declared.Found.{Found}
-use Rattle.edition.specs.declared.Found.TheVariants.{Nothing, At}
 use Rattle.edition.specs.declared.Measure.{Measure}
 use Rattle.edition.specs.declared.Measure.TheVariants.{Incr}
 use Rattle.edition.specs.Limits.{nearer_first}
@@ -139,10 +138,10 @@ module _ (s : Measure) (g : Net) (x : ℕ) where
       over e l m false h = absurd (omega (arith, l, unequal e b (chosen_first c e (omega (arith, l, c.low)) m) h))
 
   -- what is found is the best
-  pub chosen : (b : ℕ) → best s g x ≡ At b → Chosen s g x b
+  pub chosen : (b : ℕ) → best s g x ≡ Some b → Chosen s g x b
   chosen b q = go (subst (Best (candidate g x) (before s g x) g.links) q found)
     where
-      go : {b : ℕ} → Best (candidate g x) (before s g x) g.links (At b) → Chosen s g x b
+      go : {b : ℕ} → Best (candidate g x) (before s g x) g.links (Some b) → Chosen s g x b
       go (some i) = is_chosen i
 
   -- there is only one best
@@ -150,35 +149,35 @@ module _ (s : Measure) (g : Net) (x : ℕ) where
   chosen_only b c i j = best_unique (candidate g x) (before s g x) g.links b c (is-best i) (is-best j)
 
   -- and it is found
-  pub chosen_found : (b : ℕ) → Chosen s g x b → best s g x ≡ At b
+  pub chosen_found : (b : ℕ) → Chosen s g x b → best s g x ≡ Some b
   chosen_found b c = go found
     where
-      go : {f : Found} → Best (candidate g x) (before s g x) g.links f → f ≡ At b
+      go : {f : Option ℕ} → Best (candidate g x) (before s g x) g.links f → f ≡ Some b
       go (none h) = clash c.stands (h b c.low)
-      go (some i) = ap At (best_unique (candidate g x) (before s g x) g.links _ b i (is-best c))
+      go (some i) = ap Some (best_unique (candidate g x) (before s g x) g.links _ b i (is-best c))
 
   -- nothing is found exactly where no link is a candidate
-  pub nothing_stands : best s g x ≡ Nothing → (e : ℕ) → e < g.links → candidate g x e ≡ false
+  pub nothing_stands : best s g x ≡ None → (e : ℕ) → e < g.links → candidate g x e ≡ false
   nothing_stands q = go (subst (Best (candidate g x) (before s g x) g.links) q found)
     where
-      go : Best (candidate g x) (before s g x) g.links Nothing → (e : ℕ) → e < g.links → candidate g x e ≡ false
+      go : Best (candidate g x) (before s g x) g.links None → (e : ℕ) → e < g.links → candidate g x e ≡ false
       go (none h) = h
 
-  pub nothing_found : ((e : ℕ) → e < g.links → candidate g x e ≡ false) → best s g x ≡ Nothing
+  pub nothing_found : ((e : ℕ) → e < g.links → candidate g x e ≡ false) → best s g x ≡ None
   nothing_found h = go found
     where
-      go : {f : Found} → Best (candidate g x) (before s g x) g.links f → f ≡ Nothing
+      go : {f : Option ℕ} → Best (candidate g x) (before s g x) g.links f → f ≡ None
       go (none n) = refl
       go (some i) = clash i.ok (h _ i.low)
 
   -- in the word of the definition: no candidate comes before what is found, and a candidate that none comes before is found
-  pub none_before : (b : ℕ) → best s g x ≡ At b → (e : ℕ) → e < g.links → candidate g x e ≡ true → before s g x e b ≡ false
+  pub none_before : (b : ℕ) → best s g x ≡ Some b → (e : ℕ) → e < g.links → candidate g x e ≡ true → before s g x e b ≡ false
   none_before b q = chosen_first (chosen b q)
 
   pub before-none :
       (b : ℕ)
       → b < g.links → candidate g x b ≡ true → ((e : ℕ) → e < g.links → candidate g x e ≡ true → before s g x e b ≡ false)
-      → best s g x ≡ At b
+      → best s g x ≡ Some b
   before-none b low stands least =
       chosen_found b (is_chosen (record { low = low; ok = stands; least = least; first = λ e l m. over e l m (before s g x b e) refl }))
     where

@@ -1,13 +1,12 @@
 -- At depth 510 the candidates are those of the whole search: no lower end is further below a node that is not the root.
 -- The depth belongs to what is filed all the same. Assumes nothing.
+use Rattle.std.specs.Prelude.{None, Option, Some}
 use mathlib.Core.Path.{◌≡◌, refl, sym, ap, ◌∙◌}
 use mathlib.Core.Bool.{Bool, true, false}
 use Prim.Native.Nat.{ℕ, ◌<◌, ◌≤◌}
 use native.Mathlib.Omega.{arith}
 use lib.Dec.{eqb}
 use borrow.Author.Tests.{eqb-false, le-leb}
-use Rattle.edition.specs.declared.Found.{Found}
-use Rattle.edition.specs.declared.Found.TheVariants.{Nothing, At}
 use Rattle.edition.specs.declared.Measure.{Measure}
 use Rattle.edition.specs.declared.Measure.TheVariants.{Sum, Incr, Max}
 use Rattle.edition.specs.Limits.{depth_limit, whole_search}
@@ -71,9 +70,9 @@ module _ (g : Net) (s : Sound g) (x : ℕ) (far : eqb x g.search.root ≡ false)
   unfolding swap_of priced cost_of at_depth tree_of
   same_swap m = ap (priced m (at_depth g depth_limit) x) (same-best m) ∙ same_price (best m (at_depth g whole_search) x)
     where
-      same_price : (f : Found) → priced m (at_depth g depth_limit) x f ≡ priced m (at_depth g whole_search) x f
-      same_price Nothing = refl
-      same_price (At e) = refl
+      same_price : (f : Option ℕ) → priced m (at_depth g depth_limit) x f ≡ priced m (at_depth g whole_search) x f
+      same_price None = refl
+      same_price (Some e) = refl
 
   same-reach : has_candidate (at_depth g depth_limit) x ≡ has_candidate (at_depth g whole_search) x
   unfolding has_candidate at_depth

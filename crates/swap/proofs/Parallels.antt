@@ -6,7 +6,7 @@ use Prim.Native.Nat.{ℕ, ◌<◌}
 use native.Mathlib.Omega.{arith}
 use lib.Dec.{eqb, leb}
 use borrow.Author.Tests.{le-leb}
-use Rattle.edition.specs.declared.Verdict.TheVariants.{Taken}
+use Rattle.edition.specs.Refusals.{taken}
 use Rattle.edition.specs.Limits.{whole_search}
 use Rattle.rows.proofs.Tests.{or_right}
 use Rattle.network.specs.declared.Link.{Link}
@@ -54,7 +54,7 @@ module _ (t : Tree) (x : ℕ) (routed : has_route t x ≡ true) where
 -- in a sound network such a link is a candidate at every depth
 pub parallel_candidate :
     (g : Net) (x e : ℕ)
-    → net_verdict g ≡ Taken → x < g.nodes → eqb x g.search.root ≡ false → eqb e (g.parent x) ≡ false
+    → net_verdict g ≡ taken → x < g.nodes → eqb x g.search.root ≡ false → eqb e (g.parent x) ≡ false
     → in_service (g.link e) ≡ true → Joins (g.link e) x ((tree_of g).up x) → candidate g x e ≡ true
 unfolding candidate tree_of
 parallel_candidate g x e ok l far other up ends =

@@ -1,12 +1,11 @@
 -- The tie rule: what is refused, states, costs and the choice under incr do not depend on which of the two it is, and under rule 1 no
 -- candidate of equal cost brings the failed node itself nearer. Assumes nothing.
+use Rattle.std.specs.Prelude.{None, Option, Some}
 use mathlib.Core.Path.{◌≡◌, refl, sym, ap, ◌∙◌}
 use mathlib.Core.Bool.{Bool, true, false, cond}
 use Prim.Native.Nat.{ℕ, ◌+◌, ◌<◌, ◌≤◌}
 use native.Mathlib.Omega.{arith}
 use lib.Dec.{eqb}
-use Rattle.edition.specs.declared.Found.{Found}
-use Rattle.edition.specs.declared.Found.TheVariants.{Nothing, At}
 use Rattle.edition.specs.declared.Measure.{Measure}
 use Rattle.edition.specs.declared.Measure.TheVariants.{Sum, Incr, Max}
 use Rattle.edition.specs.declared.Entry.{Entry}
@@ -53,12 +52,12 @@ module _ (g : Net) (rule x : ℕ) where
   cost-same s = go (best s (at_rule g rule) x) refl (best s g x) refl
     where
       go :
-          (f : Found) → best s (at_rule g rule) x ≡ f → (h : Found) → best s g x ≡ h
+          (f : Option ℕ) → best s (at_rule g rule) x ≡ f → (h : Option ℕ) → best s g x ≡ h
           → (priced s (at_rule g rule) x f).cost ≡ (priced s g x h).cost
-      go Nothing p Nothing q = refl
-      go Nothing p (At c) q = let i = chosen s g x c q in clash i.stands (nothing_stands s (at_rule g rule) x p c i.low)
-      go (At b) p Nothing q = let i = chosen s (at_rule g rule) x b p in clash i.stands (nothing_stands s g x q b i.low)
-      go (At b) p (At c) q =
+      go None p None q = refl
+      go None p (Some c) q = let i = chosen s g x c q in clash i.stands (nothing_stands s (at_rule g rule) x p c i.low)
+      go (Some b) p None q = let i = chosen s (at_rule g rule) x b p in clash i.stands (nothing_stands s g x q b i.low)
+      go (Some b) p (Some c) q =
           let i = chosen s (at_rule g rule) x b p in
           let j = chosen s g x c q in
           omega (arith, i.least c j.low j.stands, j.least b i.low i.stands)
@@ -79,17 +78,17 @@ module _ (g : Net) (rule x : ℕ) where
   unfolding candidate tree_of at_rule
   incr_best = go (best Incr g x) refl
     where
-      go : (f : Found) → best Incr g x ≡ f → best Incr (at_rule g rule) x ≡ best Incr g x
-      go Nothing q = nothing_found Incr (at_rule g rule) x (nothing_stands Incr g x q) ∙ sym q
-      go (At b) q = chosen_found Incr (at_rule g rule) x b (incr_chosen b (chosen Incr g x b q)) ∙ sym q
+      go : (f : Option ℕ) → best Incr g x ≡ f → best Incr (at_rule g rule) x ≡ best Incr g x
+      go None q = nothing_found Incr (at_rule g rule) x (nothing_stands Incr g x q) ∙ sym q
+      go (Some b) q = chosen_found Incr (at_rule g rule) x b (incr_chosen b (chosen Incr g x b q)) ∙ sym q
 
   incr_same : swap_of Incr (at_rule g rule) x ≡ swap_of Incr g x
   unfolding swap_of priced cost_of tree_of at_rule
   incr_same = ap (priced Incr (at_rule g rule) x) incr_best ∙ priced-same (best Incr g x)
     where
-      priced-same : (f : Found) → priced Incr (at_rule g rule) x f ≡ priced Incr g x f
-      priced-same Nothing = refl
-      priced-same (At e) = refl
+      priced-same : (f : Option ℕ) → priced Incr (at_rule g rule) x f ≡ priced Incr g x f
+      priced-same None = refl
+      priced-same (Some e) = refl
 
   -- so is the state of the entry
   pub entry-state-same : (entry (at_rule g rule) x).state ≡ (entry g x).state

@@ -1,13 +1,12 @@
 -- States: 3 exactly where nothing crosses, 2 exactly where something crosses and nothing is within the depth, 1 exactly where a
 -- link is a candidate; only state 1 has links, costs and marks, and then under every measure. Assumes nothing.
+use Rattle.std.specs.Prelude.{None, Option, Some}
 use mathlib.Core.Path.{◌≡◌, refl, sym, subst, ◌∙◌}
 use mathlib.Core.Bool.{Bool, true, false, cond}
 use Prim.Native.Nat.{ℕ, ◌<◌}
 use native.Mathlib.Omega.{arith}
 use lib.Dec.{eqb}
 use borrow.Author.Tests.{eqb-true, eq-eqb, ne_eqb}
-use Rattle.edition.specs.declared.Found.{Found}
-use Rattle.edition.specs.declared.Found.TheVariants.{Nothing, At}
 use Rattle.edition.specs.declared.Measure.{Measure}
 use Rattle.edition.specs.declared.Measure.TheVariants.{Sum, Incr, Max}
 use Rattle.edition.specs.declared.Swap.{Swap}
@@ -211,11 +210,11 @@ module _ (g : Net) (x : ℕ) where
   unfolding swap_of priced
   swap_holds s q = go (best s g x) refl
     where
-      go : (f : Found) → best s g x ≡ f → Holds s (priced s g x f)
-      go Nothing e =
+      go : (f : Option ℕ) → best s g x ≡ f → Holds s (priced s g x f)
+      go None e =
           let z = swap_candidate (swap_below q) q in
           clash z.1.1 (nothing_stands s g x e z.0 z.1.0)
-      go (At b) e = (chosen s g x b e, refl, refl)
+      go (Some b) e = (chosen s g x b e, refl, refl)
 
   -- what an entry holds in state 1: under each measure its link is the best candidate, its cost what that link costs, and its mark
   -- that of the link's lower end

@@ -1,7 +1,5 @@
 -- The entry of a node: its state, and under each measure the best candidate, its cost and the mark of its lower end. Assumes nothing.
-use Rattle.std.specs.Prelude.{Bool, cond, ℕ, eqb}
-use Rattle.edition.specs.declared.Found.{Found}
-use Rattle.edition.specs.declared.Found.TheVariants.{Nothing, At}
+use Rattle.std.specs.Prelude.{None, Option, Some, Bool, cond, ℕ, eqb}
 use Rattle.edition.specs.declared.Measure.{Measure}
 use Rattle.edition.specs.declared.Measure.TheVariants.{Sum, Incr, Max}
 use Rattle.edition.specs.declared.Swap.{Swap}
@@ -28,9 +26,9 @@ state g x =
     cond (eqb x g.search.root) root_state other
 
 -- The link found with its cost and the mark of its lower end; no link, 0 and 0 where nothing is found.
-unfoldable pub priced : Measure → Net → ℕ → Found → Swap
-priced s g x Nothing = no_swap
-priced s g x (At e) = record { link = e; cost = cost_of s g x e; lower = lower_mark (tree_of g) x (g.link e) }
+unfoldable pub priced : Measure → Net → ℕ → Option ℕ → Swap
+priced s g x None = no_swap
+priced s g x (Some e) = record { link = e; cost = cost_of s g x e; lower = lower_mark (tree_of g) x (g.link e) }
 
 -- The best candidate under a measure, with its cost and the mark of its lower end.
 unfoldable pub swap_of : Measure → Net → ℕ → Swap

@@ -1,6 +1,5 @@
 -- Swap links of a node x and their costs, as SCOPE prints them. Assumes nothing.
-use Rattle.std.specs.Prelude.{Bool, cond, not, ◌&&◌, ◌||◌, List, [], ◌∷◌, ℕ, ◌+◌, ◌-◌, eqb, leb}
-use Rattle.edition.specs.declared.Found.{Found}
+use Rattle.std.specs.Prelude.{Option, Bool, cond, not, ◌&&◌, ◌||◌, List, [], ◌∷◌, ℕ, ◌+◌, ◌-◌, eqb, leb}
 use Rattle.edition.specs.declared.Measure.{Measure}
 use Rattle.edition.specs.declared.Measure.TheVariants.{Sum, Incr, Max}
 use Rattle.edition.specs.Limits.{whole_search, nearer_first}
@@ -67,5 +66,5 @@ before s g x e f = sooner (key s g x e) (key s g x f)
 
 -- The best: the candidate of least cost; among equals, under tie rule 1, of least incr cost; then the lowest link number. No candidate
 -- comes before it.
-unfoldable pub best : Measure → Net → ℕ → Found
+unfoldable pub best : Measure → Net → ℕ → Option ℕ
 best s g x = first_to (λ e. candidate g x e && not (some_to (λ f. candidate g x f && before s g x f e) g.links)) g.links

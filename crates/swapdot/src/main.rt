@@ -2,8 +2,8 @@
 // named, as arrows from their lower ends.
 #![tactic(auto)]
 
-use archive::{Header, ReadAnswer};
-use desk::{Desk, Got};
+use archive::Header;
+use desk::Desk;
 use edition::{Edition, Entry, Measure, Memory, Search};
 use network::Link;
 use std::io::Print;
@@ -12,13 +12,6 @@ use std::rt::Files;
 // Bytes of the buffer that what is printed waits in: it holds the title and the longest line of every node and link, so that
 // all is printed at once and it is seen whether it was.
 const OUT: usize = 80 * (2 + Memory::NODES + Memory::LINKS);
-
-// The measure that a word names, where it names one.
-#[derive(Clone, Copy)]
-enum Asked {
-    By(Measure),
-    Nothing,
-}
 
 // Prints the name of a measure.
 fn put_measure(out: &mut [u8], at: usize, measure: Measure) -> usize {
@@ -46,23 +39,21 @@ fn put_title(out: &mut [u8], at: usize, search: Search, measure: Measure) -> usi
 
 // Prints what is said of a node behind its number: its swap link, or that it has none.
 fn put_state(out: &mut [u8], at: usize, entry: Entry, measure: Measure) -> usize {
-    if entry.state == Edition::ROOT {
-        return output::put(out, at, b"\\nroot\", shape = doublecircle];\n");
-    }
-    if entry.state == Edition::SWAP {
-        let swap = edition::swap_by(entry, measure);
-        let named = output::put(out, at, b"\\nswap");
-        let linked = output::put_field(out, named, swap.link);
-        return output::put(out, linked, b"\"];\n");
-    }
-    if entry.state == Edition::NONE {
-        return output::put(
+    match entry.state {
+        Edition::ROOT => output::put(out, at, b"\\nroot\", shape = doublecircle];\n"),
+        Edition::SWAP => {
+            let swap = edition::swap_by(entry, measure);
+            let named = output::put(out, at, b"\\nswap");
+            let linked = output::put_field(out, named, swap.link);
+            output::put(out, linked, b"\"];\n")
+        }
+        Edition::NONE => output::put(
             out,
             at,
             b"\\nnone\", style = filled, fillcolor = orange];\n",
-        );
+        ),
+        _ => output::put(out, at, b"\\nbridge\", style = filled, fillcolor = red];\n"),
     }
-    output::put(out, at, b"\\nbridge\", style = filled, fillcolor = red];\n")
 }
 
 // Prints the number of node x and the begin of its label, which has the number too.
@@ -82,10 +73,8 @@ fn put_node(out: &mut [u8], at: usize, entries: &[u64], x: usize, measure: Measu
 // Prints the lines of all nodes.
 fn put_nodes(out: &mut [u8], at: usize, entries: &[u64], n: usize, measure: Measure) -> usize {
     let mut waits = at;
-    let mut x = 0;
-    while x < n {
+    for x in 0..n {
         waits = put_node(out, waits, entries, x, measure);
-        x += 1;
     }
     waits
 }
@@ -93,24 +82,16 @@ fn put_nodes(out: &mut [u8], at: usize, entries: &[u64], n: usize, measure: Meas
 // Whether link e is the swap link of node x and its end with this mark the lower one.
 fn is_lower_of(entries: &[u64], x: usize, e: usize, mark: u64, measure: Measure) -> bool {
     let entry = entries::entry_at(entries, x);
-    if entry.state != Edition::SWAP {
-        return false;
-    }
     let swap = edition::swap_by(entry, measure);
-    if swap.link != e as u64 {
-        return false;
-    }
-    swap.lower == mark
+    entry.state == Edition::SWAP && swap.link == e as u64 && swap.lower == mark
 }
 
 // Whether link e is the swap link of a node for which its end with this mark is the lower one.
 fn is_lower(entries: &[u64], n: usize, e: usize, mark: u64, measure: Measure) -> bool {
-    let mut x = 0;
-    while x < n {
+    for x in 0..n {
         if is_lower_of(entries, x, e, mark, measure) {
             return true;
         }
-        x += 1;
     }
     false
 }
@@ -118,16 +99,12 @@ fn is_lower(entries: &[u64], n: usize, e: usize, mark: u64, measure: Measure) ->
 // Prints how a link outside the tree is drawn, by whether its first end is the lower one for a node, and whether its second is:
 // a swap link blue, as an arrow from its lower end, or both ways; any other grey.
 fn put_spare(out: &mut [u8], at: usize, first: bool, second: bool) -> usize {
-    if first {
-        if second {
-            return output::put(out, at, b"color = blue, dir = both");
-        }
-        return output::put(out, at, b"color = blue, dir = forward");
+    match (first, second) {
+        (true, true) => output::put(out, at, b"color = blue, dir = both"),
+        (true, false) => output::put(out, at, b"color = blue, dir = forward"),
+        (false, true) => output::put(out, at, b"color = blue, dir = back"),
+        (false, false) => output::put(out, at, b"color = grey"),
     }
-    if second {
-        return output::put(out, at, b"color = blue, dir = back");
-    }
-    output::put(out, at, b"color = grey")
 }
 
 // Prints how a link is drawn: a withdrawn one dotted, a tree link thick, any other thin, as a swap link where it is one.
@@ -196,10 +173,8 @@ fn put_links(
     measure: Measure,
 ) -> usize {
     let mut waits = at;
-    let mut e = 0;
-    while e < m {
+    for e in 0..m {
         waits = put_link(out, waits, links, parents, entries, e, measure);
-        e += 1;
     }
     waits
 }
@@ -222,57 +197,46 @@ fn draw<R: Print>(
     desk::print(rt, &out, ended)
 }
 
-// Draws the file in the first bytes of a row, or says why it is refused.
+// Draws a file, or says why it is refused.
 fn draw_file<R: Print>(rt: &R, name: &[u8], file: &[u8], measure: Measure) -> bool {
     let mut links = [0u16; Memory::LINK_ROW];
     let mut parents = [0u16; Memory::NODES];
     let mut entries = [0u64; Memory::ENTRY_ROW];
     match archive::read(file, &mut links, &mut parents, &mut entries) {
-        ReadAnswer::Is(header) => draw(rt, header, &links, &parents, &entries, measure),
-        ReadAnswer::Not(refusal) => desk::refused(name, refusal),
+        Ok(header) => draw(rt, header, &links, &parents, &entries, measure),
+        Err(refusal) => desk::refused(name, refusal),
     }
-}
-
-// The same for the first bytes of a row.
-fn draw_bytes<R: Print>(rt: &R, name: &[u8], row: &[u8], size: usize, measure: Measure) -> bool {
-    if !desk::file_fits(name, size) {
-        return false;
-    }
-    if row.len() < size {
-        return false;
-    }
-    draw_file(rt, name, &row[0..size], measure)
 }
 
 // Draws the file of a name.
 fn run<R: Files + Print>(rt: &R, name: &[u8], measure: Measure) -> bool {
     let mut row = [0u8; Desk::FILE + 1];
-    match desk::read(rt, name, &mut row) {
-        Got::Is(size) => draw_bytes(rt, name, &row, size, measure),
-        Got::Not => false,
-    }
+    let Some(size) = desk::read(rt, name, &mut row) else {
+        return false;
+    };
+    desk::file_fits(name, size) && draw_file(rt, name, &row[..size], measure)
 }
 
 // The measure that a word names.
-fn measure_of(word: &[u8]) -> Asked {
+fn measure_of(word: &[u8]) -> Option<Measure> {
     if text::is_word(word, b"sum") {
-        return Asked::By(Measure::Sum);
+        return Some(Measure::Sum);
     }
     if text::is_word(word, b"incr") {
-        return Asked::By(Measure::Incr);
+        return Some(Measure::Incr);
     }
     if text::is_word(word, b"max") {
-        return Asked::By(Measure::Max);
+        return Some(Measure::Max);
     }
-    Asked::Nothing
+    None
 }
 
 // Draws the file of a name by the measure of a word, which has no bytes where it is too long for any name.
 fn run_by<R: Files + Print>(rt: &R, name: &[u8], word: &[u8]) -> bool {
-    if word.len() == 0 {
+    if word.is_empty() {
         return desk::complain(b"the measure", b"expected `sum`, `incr` or `max`");
     }
-    let Asked::By(measure) = measure_of(word) else {
+    let Some(measure) = measure_of(word) else {
         return desk::complain(word, b"expected `sum`, `incr` or `max`");
     };
     run(rt, name, measure)
@@ -282,11 +246,7 @@ fn main(rt: HostRuntime) {
     let mut first = [0u8; Desk::NAME];
     let mut second = [0u8; Desk::NAME];
     let words = desk::arg_count(&rt);
-    if words < 2 {
-        desk::usage(b"swapdot FILE [sum|incr|max]");
-        return;
-    }
-    if 3 < words {
+    if words < 2 || 3 < words {
         desk::usage(b"swapdot FILE [sum|incr|max]");
         return;
     }

@@ -3,12 +3,9 @@
 // no file NEW then.
 #![tactic(auto)]
 
-ghost use Rattle.std.specs.Prelude.{◌≤◌};
-ghost use Rattle.text.specs.Words.{most_number};
-
-use archive::{Header, ReadAnswer, WriteAnswer};
-use desk::{Desk, Got};
-use edition::{Change, Entry, Memory, Search, Swap, Verdict};
+use desk::Desk;
+use edition::{Change, Entry, Memory, Search, Swap};
+use network::Network;
 use std::io::Print;
 use std::rt::Files;
 use text::{Cursor, Line, Word};
@@ -17,40 +14,64 @@ use text::{Cursor, Line, Word};
 // nothing is printed before all of the new file is written, and all of it before that gets its name.
 const OUT: usize = 2 * 80 * Memory::NODES;
 
-// Whether a word says `up` or `down`.
-fn is_service(word: u32) -> bool {
-    if word == Word::UP {
-        return true;
-    }
-    word == Word::DOWN
+// What a line can lack.
+#[derive(Clone, Copy)]
+enum Lack {
+    Link,
+    Service,
+    Length,
+    End,
 }
 
 // The change that a line asks for.
-fn change_of(line: Line) -> Change
-    requires { (line.kind ≤ most_number) × (line.b ≤ most_number) }
-{
-    Change {
-        link: line.kind as u16,
+fn change_of(line: Line) -> Result<Change, Lack> {
+    let Word::Number(link) = line.kind else {
+        return Err(Lack::Link);
+    };
+    if line.a != Word::Up && line.a != Word::Down {
+        return Err(Lack::Service);
+    }
+    let Word::Number(length) = line.b else {
+        return Err(Lack::Length);
+    };
+    if line.c != Word::End {
+        return Err(Lack::End);
+    }
+    Ok(Change {
+        link,
         mark: text::mark_of(line.a),
-        length: line.b as u16,
+        length,
+    })
+}
+
+// Says what a line lacked.
+fn say_lack(name: &[u8], number: usize, lack: Lack) -> bool {
+    match lack {
+        Lack::Link => desk::expected(name, number, b"the number of a link"),
+        Lack::Service => desk::expected(name, number, b"`up` or `down`"),
+        Lack::Length => desk::expected_number(
+            name,
+            number,
+            b"a length up to ",
+            Word::MOST as usize,
+        ),
+        Lack::End => desk::expected(name, number, b"the end of the line"),
     }
 }
 
-// Makes the change that a line asks for; where it is refused, that is said with the line's number.
+// Makes a change; where it is refused, that is said with the line's number.
 fn fix(
     name: &[u8],
     number: usize,
-    line: Line,
+    change: Change,
     links: &mut [u16],
     parents: &[u16],
     search: Search,
     entries: &mut [u64],
-) -> bool
-    requires { (line.kind ≤ most_number) × (line.b ≤ most_number) }
-{
-    match change::change(links, parents, search, entries, change_of(line)) {
-        Verdict::Taken => true,
-        Verdict::Refused(refusal) => desk::refused_at(name, number, refusal),
+) -> bool {
+    match change::change(links, parents, search, entries, change) {
+        Ok(()) => true,
+        Err(refusal) => desk::refused_at(name, number, refusal),
     }
 }
 
@@ -64,22 +85,13 @@ fn take_line(
     search: Search,
     entries: &mut [u64],
 ) -> bool {
-    if line.kind == Word::NONE {
+    if line.kind == Word::End {
         return true;
     }
-    if Word::MOST < line.kind {
-        return desk::expected(name, number, b"the number of a link");
+    match change_of(line) {
+        Ok(change) => fix(name, number, change, links, parents, search, entries),
+        Err(lack) => say_lack(name, number, lack),
     }
-    if !is_service(line.a) {
-        return desk::expected(name, number, b"`up` or `down`");
-    }
-    if Word::MOST < line.b {
-        return desk::expected_number(name, number, b"a length up to ", Word::MOST as usize);
-    }
-    if line.c != Word::NONE {
-        return desk::expected(name, number, b"the end of the line");
-    }
-    fix(name, number, line, links, parents, search, entries)
 }
 
 // Takes the lines one after the other, to the first that is refused, and answers whether none was.
@@ -100,38 +112,20 @@ fn take_lines(
             return desk::torn(name, cursor.number);
         }
         let step = cursor.next_line(text);
-        let line = step.line;
-        if !take_line(name, cursor.number, line, links, parents, search, entries) {
+        if !take_line(
+            name,
+            cursor.number,
+            step.line,
+            links,
+            parents,
+            search,
+            entries,
+        ) {
             return false;
         }
         cursor = step.next;
     }
     true
-}
-
-// Whether two swap links, their costs and their lower ends are the same.
-fn is_same_swap(old: Swap, new: Swap) -> bool {
-    if old.link != new.link {
-        return false;
-    }
-    if old.cost != new.cost {
-        return false;
-    }
-    old.lower == new.lower
-}
-
-// Whether two entries are the same.
-fn is_same(old: Entry, new: Entry) -> bool {
-    if old.state != new.state {
-        return false;
-    }
-    if !is_same_swap(old.sum, new.sum) {
-        return false;
-    }
-    if !is_same_swap(old.incr, new.incr) {
-        return false;
-    }
-    is_same_swap(old.max, new.max)
 }
 
 // Prints the old and the new line of node x, where they differ.
@@ -143,7 +137,7 @@ fn put_changed(
     old: &[u64],
     new: &[u64],
 ) -> usize {
-    if is_same(entries::entry_at(old, x), entries::entry_at(new, x)) {
+    if entries::entry_at(old, x) == entries::entry_at(new, x) {
         return at;
     }
     let before = output::put(out, at, b"old ");
@@ -155,10 +149,8 @@ fn put_changed(
 // Prints the entries that changed.
 fn put_all(out: &mut [u8], parents: &[u16], old: &[u64], new: &[u64]) -> usize {
     let mut waits = 0;
-    let mut x = 0;
-    while x < parents.len() {
+    for x in 0..parents.len() {
         waits = put_changed(out, waits, x, parents, old, new);
-        x += 1;
     }
     waits
 }
@@ -167,16 +159,14 @@ fn put_all(out: &mut [u8], parents: &[u16], old: &[u64], new: &[u64]) -> usize {
 fn store<R: Files + Print + Alloc>(
     rt: &R,
     to: &[u8],
-    links: &[u16],
-    parents: &[u16],
-    search: Search,
+    net: Network,
     out: &[u8],
     waits: usize,
 ) -> bool {
     let mut file = [0u8; Desk::FILE];
-    match archive::write(links, parents, search.aim(), &mut file) {
-        WriteAnswer::Is(size) => desk::write_new(rt, to, &file, size, out, waits),
-        WriteAnswer::Not(refusal) => desk::refused(to, refusal),
+    match archive::write(net.links, net.parents, net.search.aim(), &mut file) {
+        Ok(size) => desk::write_new(rt, to, &file, size, out, waits),
+        Err(refusal) => desk::refused(to, refusal),
     }
 }
 
@@ -197,39 +187,15 @@ fn correct<R: Files + Print + Alloc>(
     }
     let mut out = [0u8; OUT];
     let waits = put_all(&mut out, parents, old, entries);
-    store(rt, to, links, parents, search, &out, waits)
+    let net = Network {
+        links,
+        parents,
+        search,
+    };
+    store(rt, to, net, &out, waits)
 }
 
-// The same, with as much of the rows as the header says.
-fn correct_part<R: Files + Print + Alloc>(
-    rt: &R,
-    by: &[u8],
-    to: &[u8],
-    text: &[u8],
-    header: Header,
-    links: &mut [u16],
-    parents: &[u16],
-    old: &[u64],
-    entries: &mut [u64],
-) -> bool {
-    let k = network::numbers_of(header.links);
-    if links.len() < k {
-        return false;
-    }
-    correct(
-        rt,
-        by,
-        to,
-        text,
-        &mut links[0..k],
-        rows::first(parents, header.nodes),
-        header.search,
-        old,
-        entries,
-    )
-}
-
-// Reads the file once more, for its entries as they were, and corrects what is read.
+// Reads the file and corrects as much of the rows as its header says; its entries as they were are kept beside.
 fn correct_file<R: Files + Print + Alloc>(
     rt: &R,
     from: &[u8],
@@ -237,68 +203,31 @@ fn correct_file<R: Files + Print + Alloc>(
     to: &[u8],
     file: &[u8],
     text: &[u8],
-    old: &[u64],
 ) -> bool {
     let mut links = [0u16; Memory::LINK_ROW];
     let mut parents = [0u16; Memory::NODES];
     let mut entries = [0u64; Memory::ENTRY_ROW];
     match archive::read(file, &mut links, &mut parents, &mut entries) {
-        ReadAnswer::Is(header) => {
-            correct_part(
-                rt,
-                by,
-                to,
-                text,
-                header,
-                &mut links,
-                &parents,
-                old,
-                &mut entries,
-            )
+        Ok(header) => {
+            let old = entries;
+            let k = network::numbers_of(header.links);
+            let named = rows::first(&parents, header.nodes);
+            let search = header.search;
+            k <= links.len()
+                && correct(
+                    rt,
+                    by,
+                    to,
+                    text,
+                    &mut links[..k],
+                    named,
+                    search,
+                    &old,
+                    &mut entries,
+                )
         }
-        ReadAnswer::Not(refusal) => desk::refused(from, refusal),
+        Err(refusal) => desk::refused(from, refusal),
     }
-}
-
-// Reads the file's entries as they are, and corrects it.
-fn correct_old<R: Files + Print + Alloc>(
-    rt: &R,
-    from: &[u8],
-    by: &[u8],
-    to: &[u8],
-    file: &[u8],
-    text: &[u8],
-) -> bool {
-    let mut links = [0u16; Memory::LINK_ROW];
-    let mut parents = [0u16; Memory::NODES];
-    let mut old = [0u64; Memory::ENTRY_ROW];
-    match archive::read(file, &mut links, &mut parents, &mut old) {
-        ReadAnswer::Is(_) => correct_file(rt, from, by, to, file, text, &old),
-        ReadAnswer::Not(refusal) => desk::refused(from, refusal),
-    }
-}
-
-// Corrects the file in the first bytes of a row by the text in the first bytes of another.
-fn correct_bytes<R: Files + Print + Alloc>(
-    rt: &R,
-    from: &[u8],
-    by: &[u8],
-    to: &[u8],
-    file: &[u8],
-    size: usize,
-    text: &[u8],
-    long: usize,
-) -> bool {
-    if !desk::file_fits(from, size) {
-        return false;
-    }
-    if file.len() < size {
-        return false;
-    }
-    if text.len() < long {
-        return false;
-    }
-    correct_old(rt, from, by, to, &file[0..size], &text[0..long])
 }
 
 // Reads the corrections, and makes them in the file.
@@ -308,22 +237,23 @@ fn with_text<R: Files + Print + Alloc>(
     by: &[u8],
     to: &[u8],
     file: &[u8],
-    size: usize,
 ) -> bool {
     let mut text = desk::text_room();
-    match desk::read(rt, by, &mut text) {
-        Got::Is(long) => correct_bytes(rt, from, by, to, file, size, &text, long),
-        Got::Not => false,
-    }
+    let Some(long) = desk::read(rt, by, &mut text) else {
+        return false;
+    };
+    desk::file_fits(from, file.len())
+        && long <= text.len()
+        && correct_file(rt, from, by, to, file, &text[..long])
 }
 
 // Makes the file `to` of the file `from`, corrected by the text in the file `by`.
 fn run<R: Files + Print + Alloc>(rt: &R, from: &[u8], by: &[u8], to: &[u8]) -> bool {
     let mut file = [0u8; Desk::FILE + 1];
-    match desk::read(rt, from, &mut file) {
-        Got::Is(size) => with_text(rt, from, by, to, &file, size),
-        Got::Not => false,
-    }
+    let Some(size) = desk::read(rt, from, &mut file) else {
+        return false;
+    };
+    size <= file.len() && with_text(rt, from, by, to, &file[..size])
 }
 
 fn main(rt: HostRuntime) {
@@ -337,11 +267,10 @@ fn main(rt: HostRuntime) {
     let from = desk::arg(&rt, 1, &mut first);
     let by = desk::arg(&rt, 2, &mut second);
     let to = desk::arg(&rt, 3, &mut third);
-    if desk::is_name(b"FILE", from) {
-        if desk::is_name(b"CORRECTIONS", by) {
-            if desk::is_name(b"NEW", to) {
-                run(&rt, &first[..from], &second[..by], &third[..to]);
-            }
-        }
+    if desk::is_name(b"FILE", from)
+        && desk::is_name(b"CORRECTIONS", by)
+        && desk::is_name(b"NEW", to)
+    {
+        run(&rt, &first[..from], &second[..by], &third[..to]);
     }
 }

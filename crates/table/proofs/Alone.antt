@@ -1,9 +1,9 @@
 -- Where x alone is asked for, the nodes below x, and no others, have its rank. Assumes nothing.
+use Rattle.std.specs.Prelude.{None, Some}
 use Rattle.std.proofs.Common.{◌≡◌, ℕ, zero, suc, ◌*◌, ◌<◌, Bool, true, false, cond, eqb, List, [], ◌∷◌, length, get_or, set, replicate, sym, refl, ap, ◌∙◌}
 use Rattle.std.proofs.Common.{arith, get_or-set_other, get_or-set_same, eq-eqb, ne_eqb, eqb-true}
 use lib.ListN.{length-replicate}
 use borrow.Author.Tests.{eqb-false}
-use Rattle.edition.specs.declared.Found.TheVariants.{Nothing, At}
 use Rattle.edition.specs.Limits.{node_limit, no_node}
 use Rattle.edition.specs.declared.Search.{Search}
 use Rattle.rows.specs.Lists.{has}
@@ -34,15 +34,15 @@ module _ (n x : ℕ) (l : x < n) where
       go false q = rw (get_or-set_other {A = ℕ} (replicate n 0) x u 1 0 (eqb-false u x q), zeros n u)
 
 module _ (asked : List ℕ) (x : ℕ) (only : (u : ℕ) → is_asked asked u ≡ eqb u x) where
-  anchor-alone : (r : List ℕ) → anchor_in asked r ≡ cond (has x r) (At x) Nothing
+  anchor-alone : (r : List ℕ) → anchor_in asked r ≡ cond (has x r) (Some x) None
   unfolding anchor_in has
   anchor-alone [] = refl
   anchor-alone (u ∷ r) = go (anchor-alone r) (eqb u x) refl
     where
       go :
-          anchor_in asked r ≡ cond (has x r) (At x) Nothing
-          → (b : Bool) → eqb u x ≡ b → anchor_in asked (u ∷ r) ≡ cond (has x (u ∷ r)) (At x) Nothing
-      go ih true q = rw (only u, q) (ap At (eqb-true u x q))
+          anchor_in asked r ≡ cond (has x r) (Some x) None
+          → (b : Bool) → eqb u x ≡ b → anchor_in asked (u ∷ r) ≡ cond (has x (u ∷ r)) (Some x) None
+      go ih true q = rw (only u, q) (ap Some (eqb-true u x q))
       go ih false q = rw (only u, q) ih
 
   -- the rank of x below it, that of no node elsewhere

@@ -1,7 +1,7 @@
 -- Anchors: a node is its own exactly where it is asked for, and where two nodes have one anchor, each node asked for has both below it
 -- or none of them. Assumes nothing.
+use Rattle.std.specs.Prelude.{None, Some}
 use Rattle.std.proofs.Common.{◌≡◌, ℕ, ◌<◌, Bool, true, false, eqb, List, [], ◌∷◌, sym, refl, ap, ◌∙◌, subst, arith, eqb-true}
-use Rattle.edition.specs.declared.Found.TheVariants.{Nothing, At}
 use Rattle.rows.specs.Lists.{has}
 use Rattle.rows.proofs.Tests.{clash, either, or_right, not_so}
 use Rattle.rows.proofs.Listed.{has_head}
@@ -14,11 +14,11 @@ has_more : (u a : ℕ) (r : List ℕ) → has a r ≡ true → has a (u ∷ r) �
 unfolding has
 has_more u a r m = or_right (eqb u a) (has a r) m
 
-pub some : {a : ℕ} → Nothing ≡ At a → ⊥
+pub some : {a : ℕ} → None ≡ Some a → ⊥
 some q = let no : ◌≡◌ {A = ℕ} 0 1 = cc in omega arith
 
 module _ (asked : List ℕ) where
-  anchor-here : (u : ℕ) (r : List ℕ) → is_asked asked u ≡ true → anchor_in asked (u ∷ r) ≡ At u
+  anchor-here : (u : ℕ) (r : List ℕ) → is_asked asked u ≡ true → anchor_in asked (u ∷ r) ≡ Some u
   unfolding anchor_in
   anchor-here u r e = rw e
 
@@ -27,13 +27,13 @@ module _ (asked : List ℕ) where
   anchor-past u r e = rw e
 
   -- an anchor that names a node names one of the list that is asked for
-  pub anchor-found : (a : ℕ) (r : List ℕ) → anchor_in asked r ≡ At a → (has a r ≡ true) × (is_asked asked a ≡ true)
+  pub anchor-found : (a : ℕ) (r : List ℕ) → anchor_in asked r ≡ Some a → (has a r ≡ true) × (is_asked asked a ≡ true)
   unfolding anchor_in
   anchor-found a [] q = absurd (some q)
   anchor-found a (u ∷ r) q = go (anchor-found a r) (is_asked asked u) refl
     where
       go :
-          (anchor_in asked r ≡ At a → (has a r ≡ true) × (is_asked asked a ≡ true))
+          (anchor_in asked r ≡ Some a → (has a r ≡ true) × (is_asked asked a ≡ true))
           → (b : Bool) → is_asked asked u ≡ b → (has a (u ∷ r) ≡ true) × (is_asked asked a ≡ true)
       go ih true e =
           let same : u ≡ a = let z = sym (anchor-here u r e) ∙ q in cc in
@@ -43,7 +43,7 @@ module _ (asked : List ℕ) where
 module _ (t : Tree) (asked : List ℕ) where
   module _ (x : ℕ) (h : Home t x) where
     -- its own where it is asked for, else that of its parent; none at a root that is not asked for
-    pub anchor-own : is_asked asked x ≡ true → anchor t asked x ≡ At x
+    pub anchor-own : is_asked asked x ≡ true → anchor t asked x ≡ Some x
     unfolding anchor
     anchor-own e = let z = way_head t (way t x h) in ap (anchor_in asked) z.1 ∙ anchor-here asked x z.0 e
 
@@ -51,11 +51,11 @@ module _ (t : Tree) (asked : List ℕ) where
     unfolding anchor
     anchor-up e r = ap (anchor_in asked) (route-step t x h r) ∙ anchor-past asked x _ e
 
-    pub anchor-top : is_asked asked x ≡ false → eqb x t.root ≡ true → anchor t asked x ≡ Nothing
+    pub anchor-top : is_asked asked x ≡ false → eqb x t.root ≡ true → anchor t asked x ≡ None
     unfolding anchor anchor_in
     anchor-top e r = ap (anchor_in asked) (route-root t x h r) ∙ anchor-past asked x [] e
 
-    pub anchor_other : is_asked asked x ≡ false → anchor t asked x ≡ At x → ⊥
+    pub anchor_other : is_asked asked x ≡ false → anchor t asked x ≡ Some x → ⊥
     unfolding anchor
     anchor_other e q = clash (anchor-found asked x (route t x) q).1 e
 
@@ -63,7 +63,7 @@ module _ (t : Tree) (asked : List ℕ) where
   pub way-anchor :
       {u : ℕ} {r : List ℕ}
       → Way t u r → Home t u → (y : ℕ) → has y r ≡ true → is_asked asked y ≡ true
-      → (a : ℕ) × (anchor_in asked r ≡ At a) × (has a r ≡ true) × (under t y a ≡ true)
+      → (a : ℕ) × (anchor_in asked r ≡ Some a) × (has a r ≡ true) × (under t y a ≡ true)
   unfolding has under
   way-anchor (top {u} e) h y m o =
       either (eqb u y) false m
@@ -78,9 +78,9 @@ module _ (t : Tree) (asked : List ℕ) where
     where
       go :
           (has y r ≡ true
-          → is_asked asked y ≡ true → (a : ℕ) × (anchor_in asked r ≡ At a) × (has a r ≡ true) × (has y (route t a) ≡ true))
+          → is_asked asked y ≡ true → (a : ℕ) × (anchor_in asked r ≡ Some a) × (has a r ≡ true) × (has y (route t a) ≡ true))
           → (b : Bool) → is_asked asked u ≡ b
-          → (a : ℕ) × (anchor_in asked (u ∷ r) ≡ At a) × (has a (u ∷ r) ≡ true) × (has y (route t a) ≡ true)
+          → (a : ℕ) × (anchor_in asked (u ∷ r) ≡ Some a) × (has a (u ∷ r) ≡ true) × (has y (route t a) ≡ true)
       go ih true p = (u, anchor-here asked u r p, has_head u r, subst (λ (s : List ℕ). has y s ≡ true) (way_only t (hop e w) (way t u h)) m)
       go ih false p =
           either (eqb u y) (has y r) m

@@ -126,19 +126,6 @@ pub record Between (g : Net) (survey asked : List ℕ) (e k : ℕ) (row₀ : Lis
       (want g asked before e v))
       before row
 
--- a row of entries in which the record of x, and no other, went on from e links to one more
-pub record Went (g : Net) (asked : List ℕ) (e x : ℕ) (row row' : List ℕ) : Type 0 where
-  pub offered : OfferedAt g g.nodes asked e x row row'
-  pub size : length row' ≡ length row
-
-module _ {g : Net} {asked : List ℕ} {e x : ℕ} {row row' : List ℕ} where
-  -- by an offer, and without one
-  pub went_on : {row'' : List ℕ} → OfferedAt g g.nodes asked e x row row'' → length row'' ≡ length row → row' ≡ row'' → Went g asked e x row row'
-  went_on o l q = rw q (record { offered = o; size = l })
-
-  pub went_still : OfferedAt g g.nodes asked e x row row → row' ≡ row → Went g asked e x row row'
-  went_still o q = rw q (record { offered = o; size = refl })
-
 -- how many more nodes the two can come to have below them
 abbrev pub ahead : List ℕ → Side → Side → ℕ
 ahead survey a b = node_limit + node_limit - ((known_at survey a.climb.node).count + (known_at survey b.climb.node).count)

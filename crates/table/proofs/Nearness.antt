@@ -53,17 +53,10 @@ module _ {g : Net} {links survey : List ℕ} {x : ℕ} (st : Starts g survey x) 
   pub not-long : l.length ≤ longest
   not-long = rw lq (rd.long b)
 
-  module _ {k : ℕ} (kq : k ≡ through (tree_of g) l) {at : Known} (aq : at ≡ known_at survey x) where
+  module _ {at : Known} (aq : at ≡ known_at survey x) where
     pub own-fits : 2 * at.near < 2 ^ 64
     own-fits = omega (arith, near_is st.surveyed x st.low at aq, dist-few st.surveyed x)
 
-    way-is : k ≡ through (tree_of g) (g.link b)
-    way-is = kq ∙ ap (through (tree_of g)) (lq ∙ rd.link-is b)
-
-    pub nearer_none : k < 2 * at.near → 0 ≡ incr_by g x b
+    pub nearer_is : {k : ℕ} → k ≡ through (tree_of g) l → k - 2 * at.near ≡ incr_by g x b
     unfolding incr_by
-    nearer_none h = omega (arith, h, way-is, near_is st.surveyed x st.low at aq)
-
-    pub nearer_is : k - 2 * at.near ≡ incr_by g x b
-    unfolding incr_by
-    nearer_is = omega (arith, way-is, near_is st.surveyed x st.low at aq)
+    nearer_is kq = omega (arith, kq ∙ ap (through (tree_of g)) (lq ∙ rd.link-is b), near_is st.surveyed x st.low at aq)

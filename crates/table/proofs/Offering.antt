@@ -1,6 +1,6 @@
 -- Offering a link to a node: its record goes on from the entry of e links to that of one more. Assumes nothing.
 use Rattle.std.proofs.Common.{◌≡◌, ℕ, suc, ◌+◌, ◌%◌, ◌<◌, ◌≤◌, Bool, true, false, cond, not, ◌&&◌, ◌||◌, eqb, ltb, leb, List, length, get_or, sym, refl, ap}
-use Rattle.std.proofs.Common.{◌∙◌, subst, add-one, arith, ltb-false, le-ltb, lt-ltb, eq-eqb, ne_eqb, eqb-true, leb-true}
+use Rattle.std.proofs.Common.{◌∙◌, subst, add-one, arith, ltb-false, le-ltb, eq-eqb, ne_eqb, eqb-true, leb-true}
 use borrow.Author.Tests.{not-true, not-false}
 use Rattle.edition.specs.declared.Search.{Search}
 use Rattle.edition.specs.declared.Swap.{Swap}
@@ -9,7 +9,7 @@ use Rattle.edition.specs.declared.Measure.TheVariants.{Incr}
 use Rattle.edition.specs.Limits.{node_limit, whole_search, nearer_first}
 use Rattle.edition.specs.Entries.{swap_state}
 use Rattle.entries.specs.Row.{entry_row, entries_in, entry_at, put_entry}
-use Rattle.rows.proofs.Tests.{clash, and_left, and_right, and_none, or_right, not_so}
+use Rattle.rows.proofs.Tests.{clash, and_left, and_right, or_right, not_so}
 use Rattle.network.specs.Network.{Net}
 use Rattle.tree.specs.Tree.{tree_of, hops}
 use Rattle.swap.specs.Swap.{inner_end, within, candidate, cost_of}
@@ -87,24 +87,6 @@ settled_nearest rule f s least cost incr h l = go (eqb rule nearer_first) refl (
         rw (r, q) (subst (λ (b : ℕ). f b ≤ incr) (sym (eqb-true s.link least.link least_is)) l)
     go true r false q = rw (r, q) (omega arith)
     go false r v q = rw r (omega arith)
-
--- what the test says, by the costs in turn
-module _ (old : Entry) (c : Costs) where
-  pub nothing_yet : (old.state ≡ swap_state → ⊥) → false ≡ no_better old c
-  unfolding no_better
-  nothing_yet n = rw (ne_eqb old.state swap_state n)
-
-  pub sum-lower : c.sum < old.sum.cost → false ≡ no_better old c
-  unfolding no_better
-  sum-lower l = rw (lt-ltb c.sum old.sum.cost l, and_none (eqb old.state swap_state))
-
-  pub incr_lower : c.incr < old.incr.cost → false ≡ no_better old c
-  unfolding no_better
-  incr_lower l = rw (lt-ltb c.incr old.incr.cost l, and_none (eqb old.state swap_state && not (ltb c.sum old.sum.cost)))
-
-  pub max_decides : old.state ≡ swap_state → old.sum.cost ≤ c.sum → old.incr.cost ≤ c.incr → leb old.max.cost c.max ≡ no_better old c
-  unfolding no_better
-  max_decides e l m = rw (eq-eqb old.state swap_state e, le-ltb c.sum old.sum.cost l, le-ltb c.incr old.incr.cost m)
 
 all-four : (a b c d : Bool) → (a && b && c && d) ≡ true → (a ≡ true) × (b ≡ true) × (c ≡ true) × (d ≡ true)
 all-four true true true d h = (refl, refl, refl, h)

@@ -1,9 +1,8 @@
 -- What one more link does to an entry: nothing where it does not cross, else what `offered` says. Assumes nothing.
+use Rattle.std.specs.Prelude.{None, Option, Some}
 use Rattle.std.proofs.Common.{◌≡◌, ℕ, suc, ◌<◌, Bool, true, false, cond, ◌&&◌, ◌||◌, eqb, ltb, [], ◌∷◌, sym, refl, ap, ◌∙◌, subst, arith, le-ltb, eq-eqb}
 use Rattle.std.proofs.Common.{ne_eqb, eqb-true}
 use borrow.Author.Tests.{eqb-false}
-use Rattle.edition.specs.declared.Found.{Found}
-use Rattle.edition.specs.declared.Found.TheVariants.{Nothing, At}
 use Rattle.edition.specs.declared.Measure.{Measure}
 use Rattle.edition.specs.declared.Measure.TheVariants.{Sum, Incr, Max}
 use Rattle.edition.specs.Limits.{nearer_first}
@@ -27,7 +26,7 @@ use Rattle.table.specs.Prefix.{first_links, as_swap, kept, tied_by, standing_by,
 
 module _ (g : Net) (x : ℕ) where
   -- the best of the first k links
-  best_of : Measure → ℕ → Found
+  best_of : Measure → ℕ → Option ℕ
   best_of s k = best_to (candidate g x) (before s g x) k
 
   best_of_lem : (s : Measure) (k : ℕ) → best s (first_links g k) x ≡ best_of s k
@@ -38,9 +37,9 @@ module _ (g : Net) (x : ℕ) where
   unfolding swap_of priced cost_of first_links tree_of
   swap_of_lem s k = ap (priced s (first_links g k) x) (best_of_lem s k) ∙ same (best_of s k)
     where
-      same : (f : Found) → priced s (first_links g k) x f ≡ priced s g x f
-      same Nothing = refl
-      same (At e) = refl
+      same : (f : Option ℕ) → priced s (first_links g k) x f ≡ priced s g x f
+      same None = refl
+      same (Some e) = refl
 
   saved_of : ℕ → Bool
   saved_of k = some_to (candidate g x) k
@@ -139,24 +138,24 @@ module _ (g : Net) (x : ℕ) where
     -- a candidate o, which is link l: where the test by i says whether it comes before what stands, what is kept is the best
     module _ (s : Measure) (c : candidate g x l ≡ true) (o : Offer) (p : o.link ≡ l) (q : o.cost ≡ cost_of s g x l)
         (m : o.lower ≡ lower_mark (tree_of g) x (g.link l)) (i : ℕ) where
-      Told : Found → Type 0
-      Told f = (b : ℕ) → f ≡ At b → (ltb o.cost (cost_of s g x b) || ltb o.incr i) ≡ before s g x l b
+      Told : Option ℕ → Type 0
+      Told f = (b : ℕ) → f ≡ Some b → (ltb o.cost (cost_of s g x b) || ltb o.incr i) ≡ before s g x l b
 
-      is-new : priced s g x (At l) ≡ as_swap o
+      is-new : priced s g x (Some l) ≡ as_swap o
       unfolding priced
       is-new = λ j. record { link = sym p j; cost = sym q j; lower = sym m j }
 
       two :
-          (b : ℕ) → Told (At b) → (t : Bool) → before s g x l b ≡ t
-          → priced s g x (cond (before s g x l b) (At l) (At b)) ≡ kept true i (priced s g x (At b)) o
+          (b : ℕ) → Told (Some b) → (t : Bool) → before s g x l b ≡ t
+          → priced s g x (cond (before s g x l b) (Some l) (Some b)) ≡ kept true i (priced s g x (Some b)) o
       unfolding kept priced Told
       two b told true e = rw (e, told b refl ∙ e) is-new
       two b told false e = rw (e, told b refl ∙ e)
 
-      one : (f : Found) → Told f → priced s g x (cond (beats (before s g x) l f) (At l) f) ≡ kept (is_at f) i (priced s g x f) o
+      one : (f : Option ℕ) → Told f → priced s g x (cond (beats (before s g x) l f) (Some l) f) ≡ kept (is_at f) i (priced s g x f) o
       unfolding beats kept
-      one Nothing told = is-new
-      one (At b) told = two b told (before s g x l b) refl
+      one None told = is-new
+      one (Some b) told = two b told (before s g x l b) refl
 
       swap_kept : Told (best_of s l) → priced s g x (best_of s (suc l)) ≡ kept (saved_of l) i (priced s g x (best_of s l)) o
       unfolding best_of best_to saved_of
@@ -200,16 +199,16 @@ module _ (g : Net) (x : ℕ) where
             )
 
     -- what is found is a candidate
-    found_stands : (s : Measure) (b : ℕ) → best_of s l ≡ At b → (b < l) × (candidate g x b ≡ true)
+    found_stands : (s : Measure) (b : ℕ) → best_of s l ≡ Some b → (b < l) × (candidate g x b ≡ true)
     unfolding best_of
     found_stands s b e = go (subst (Stands (candidate g x) (before s g x) l) e (stands (candidate g x) (before s g x) l))
       where
-        go : {b : ℕ} → Stands (candidate g x) (before s g x) l (At b) → (b < l) × (candidate g x b ≡ true)
+        go : {b : ℕ} → Stands (candidate g x) (before s g x) l (Some b) → (b < l) × (candidate g x b ≡ true)
         go (somebody k m) = (k, m)
 
     module _ (f : ℕ → ℕ) (known : (b : ℕ) → b < l → candidate g x b ≡ true → f b ≡ cost_of Incr g x b) where
       tied_told :
-          (s : Measure) (o : Offer) → o.cost ≡ cost_of s g x l → o.incr ≡ cost_of Incr g x l → (b : ℕ) → best_of s l ≡ At b
+          (s : Measure) (o : Offer) → o.cost ≡ cost_of s g x l → o.incr ≡ cost_of Incr g x l → (b : ℕ) → best_of s l ≡ Some b
           → (ltb o.cost (cost_of s g x b) || ltb o.incr (tied_by g.search.rule f (priced s g x (best_of s l)) o.cost)) ≡ before s g x l b
       unfolding tied_by priced
       tied_told s o p q b e = rw e (go (eqb o.cost (cost_of s g x b)) refl (eqb g.search.rule nearer_first) refl)
@@ -237,7 +236,7 @@ module _ (g : Net) (x : ℕ) where
               (sym (by_cost s b z.0 (λ k. eqb-false o.cost (cost_of s g x b) h (p ∙ k))))
 
       incr_told :
-          (o : Offer) → o.cost ≡ cost_of Incr g x l → (b : ℕ) → best_of Incr l ≡ At b
+          (o : Offer) → o.cost ≡ cost_of Incr g x l → (b : ℕ) → best_of Incr l ≡ Some b
           → (ltb o.cost (cost_of Incr g x b) || ltb o.incr 0) ≡ before Incr g x l b
       incr_told o p b e =
           rw (le-ltb o.incr 0 (omega arith), or_none (ltb o.cost (cost_of Incr g x b)), p)
@@ -294,7 +293,7 @@ module _ (g : Net) (x : ℕ) where
 
   -- what the swap link under incr costs by incr is its cost
   incr_cost : (f : ℕ → ℕ) (k : ℕ) → ((b : ℕ) → b < k → candidate g x b ≡ true → f b ≡ cost_of Incr g x b)
-      → {h : Found} → Stands (candidate g x) (before Incr g x) k h → is_at h ≡ true → f (priced Incr g x h).link ≡ (priced Incr g x h).cost
+      → {h : Option ℕ} → Stands (candidate g x) (before Incr g x) k h → is_at h ≡ true → f (priced Incr g x h).link ≡ (priced Incr g x h).cost
   unfolding priced
   incr_cost f k known nobody e = clash e refl
   incr_cost f k known (somebody {b} l m) e = known b l m

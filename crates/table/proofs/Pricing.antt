@@ -152,26 +152,25 @@ module _ {g : Net} {row : List ℕ} {e k : ℕ} {s : Side} (h : Costing g row e 
     pub own-fits : 2 * x.near < 2 ^ 64
     own-fits = omega (arith, own_less, k_small)
 
-    module _ {p : ℕ} (pq : p ≡ x.count * k) where
-      b_is : x.base ≡ base (tree_of g) s.climb.node
-      b_is = base-is sv _ x_low x xq
+    b_is : x.base ≡ base (tree_of g) s.climb.node
+    b_is = base-is sv _ x_low x xq
 
-      pub whole_fits : x.base + p < 2 ^ 64
-      whole_fits = omega (arith, b_is, pq, product_bound, base-few sv s.climb.node)
+    pub whole_fits : x.base + x.count * k < 2 ^ 64
+    whole_fits = omega (arith, b_is, product_bound, base-few sv s.climb.node)
 
-      whole_is : x.base + p ≡ cost_of Sum g s.climb.node e + turn (tree_of g) s.from
-      whole_is = ap₂ ◌+◌ b_is (pq ∙ ap (λ (v : ℕ). v * k) n_is) ∙ sym sums
+    whole_is : x.base + x.count * k ≡ cost_of Sum g s.climb.node e + turn (tree_of g) s.from
+    whole_is = ap₂ ◌+◌ b_is (ap (λ (v : ℕ). v * k) n_is) ∙ sym sums
 
-      pub turn_less : s.turn ≤ x.base + p
-      turn_less = omega (arith, i.turn_is, whole_is)
+    pub turn_less : s.turn ≤ x.base + x.count * k
+    turn_less = omega (arith, i.turn_is, whole_is)
 
-      pub priced : Priced g s.climb.node e (record { sum = x.base + p - s.turn; incr = k - 2 * x.near; max = s.reach + (k - s.near) })
-      priced =
-          record {
-            sum_is = omega (arith, i.turn_is, whole_is);
-            incr_is = omega (arith, incrs, near);
-            max-is = rw i.near_is (sym maxes);
-          }
+    pub priced : Priced g s.climb.node e (record { sum = x.base + x.count * k - s.turn; incr = k - 2 * x.near; max = s.reach + (k - s.near) })
+    priced =
+        record {
+          sum_is = omega (arith, i.turn_is, whole_is);
+          incr_is = omega (arith, incrs, near);
+          max-is = rw i.near_is (sym maxes);
+        }
 
   pub rest_less : s.near ≤ k
   rest_less = omega (arith, ends, i.near_is)

@@ -1,9 +1,8 @@
 -- Ranks: two nodes have one rank exactly where they have one anchor, and of two the one whose anchor has no more nodes below it is not
 -- above the other. Assumes nothing.
+use Rattle.std.specs.Prelude.{None, Option, Some}
 use Rattle.std.proofs.Common.{◌≡◌, ℕ, suc, ◌+◌, ◌*◌, ◌/◌, ◌%◌, ◌<◌, ◌≤◌, Bool, true, false, eqb, List, sym, refl, ap, ◌∙◌, subst, arith, eqb-true}
 use borrow.Author.Tests.{eqb-false}
-use Rattle.edition.specs.declared.Found.{Found}
-use Rattle.edition.specs.declared.Found.TheVariants.{Nothing, At}
 use Rattle.edition.specs.Limits.{node_limit, no_node}
 use Rattle.rows.proofs.Tests.{not_so}
 use Rattle.network.specs.Network.{Net}
@@ -43,10 +42,10 @@ pub rank_of_some : (c x : ℕ) → rank_of c x ≡ 0 → ⊥
 unfolding rank_of
 rank_of_some c x q = omega arith
 
-rank_by_some : (t : Tree) (f : Found) → rank_by t f ≡ 0 → ⊥
+rank_by_some : (t : Tree) (f : Option ℕ) → rank_by t f ≡ 0 → ⊥
 unfolding rank_by
-rank_by_some t Nothing q = omega arith
-rank_by_some t (At x) q = rank_of_some (count t x) x q
+rank_by_some t None q = omega arith
+rank_by_some t (Some x) q = rank_of_some (count t x) x q
 
 module _ (t : Tree) (asked : List ℕ) where
   pub rank_some : (u : ℕ) → rank t asked u ≡ 0 → ⊥
@@ -73,19 +72,19 @@ module _ {g : Net} {survey : List ℕ} (s : Surveyed g survey) (asked : List ℕ
   t = tree_of g
 
   -- an anchor is a node
-  found_in : (u : ℕ) → u < t.size → (a : ℕ) → anchor t asked u ≡ At a → a < t.size
+  found_in : (u : ℕ) → u < t.size → (a : ℕ) → anchor t asked u ≡ Some a → a < t.size
   unfolding anchor under
   found_in u l a q = under-below t (closed s) u a (homes s u l) l (anchor-found asked a (route t u) q).0
 
-  found-low : (u : ℕ) → u < t.size → (a : ℕ) → anchor t asked u ≡ At a → a < node_limit
+  found-low : (u : ℕ) → u < t.size → (a : ℕ) → anchor t asked u ≡ Some a → a < node_limit
   found-low u l a q = omega (arith, found_in u l a q, small s)
 
-  by_one : (f f' : Found) → ((a : ℕ) → f ≡ At a → a < node_limit) → ((a : ℕ) → f' ≡ At a → a < node_limit) → rank_by t f ≡ rank_by t f' → f ≡ f'
+  by_one : (f f' : Option ℕ) → ((a : ℕ) → f ≡ Some a → a < node_limit) → ((a : ℕ) → f' ≡ Some a → a < node_limit) → rank_by t f ≡ rank_by t f' → f ≡ f'
   unfolding rank_by
-  by_one Nothing Nothing l l' q = refl
-  by_one Nothing (At y) l l' q = absurd (omega (arith, rank_high (l' y refl) (count-few s y), q))
-  by_one (At x) Nothing l l' q = absurd (omega (arith, rank_high (l x refl) (count-few s x), q))
-  by_one (At x) (At y) l l' q = ap At (rank-one (count t x) (count t y) (l x refl) (l' y refl) q)
+  by_one None None l l' q = refl
+  by_one None (Some y) l l' q = absurd (omega (arith, rank_high (l' y refl) (count-few s y), q))
+  by_one (Some x) None l l' q = absurd (omega (arith, rank_high (l x refl) (count-few s x), q))
+  by_one (Some x) (Some y) l l' q = ap Some (rank-one (count t x) (count t y) (l x refl) (l' y refl) q)
 
   -- of two nodes with one rank, each node asked for has both below it or none of them
   pub rank_same :
@@ -97,10 +96,10 @@ module _ {g : Net} {survey : List ℕ} (s : Surveyed g survey) (asked : List ℕ
       anchor-same t asked (homes s) p q lp lq (by_one (anchor t asked p) (anchor t asked q) (found-low p lp) (found-low q lq) e)
 
   -- a node that is not asked for has another number in its rank
-  by_number : (f : Found) → ((a : ℕ) → f ≡ At a → a < node_limit) → (x : ℕ) → rank_by t f % rank_step ≡ suc x → f ≡ At x
+  by_number : (f : Option ℕ) → ((a : ℕ) → f ≡ Some a → a < node_limit) → (x : ℕ) → rank_by t f % rank_step ≡ suc x → f ≡ Some x
   unfolding rank_by
-  by_number Nothing l x q = absurd (omega (arith, q))
-  by_number (At a) l x q = ap At (omega (arith, (rank_parts (count t a) (l a refl)).1, q))
+  by_number None l x q = absurd (omega (arith, q))
+  by_number (Some a) l x q = ap Some (omega (arith, (rank_parts (count t a) (l a refl)).1, q))
 
   pub rank_other : (x : ℕ) → x < t.size → is_asked asked x ≡ false → rank t asked x % rank_step ≡ suc x → ⊥
   unfolding rank
@@ -108,29 +107,29 @@ module _ {g : Net} {survey : List ℕ} (s : Surveyed g survey) (asked : List ℕ
 
   module _ (u v : ℕ) (lu : u < t.size) (lv : v < t.size) (m : under t u v ≡ true) where
     -- where u is above v, an anchor of u is above one of v
-    above : (x : ℕ) → anchor t asked u ≡ At x → (a : ℕ) × (anchor t asked v ≡ At a) × (under t x a ≡ true)
+    above : (x : ℕ) → anchor t asked u ≡ Some x → (a : ℕ) × (anchor t asked v ≡ Some a) × (under t x a ≡ true)
     unfolding anchor under
     above x e =
         let on = anchor-found asked x (route t u) e in
         let z = way-anchor t asked (way t v (homes s v lv)) (homes s v lv) x (under_trans t u x v (homes s v lv) m on.0) on.1 in
         (z.0, z.1, z.3)
 
-    one-anchor : (x a : ℕ) → anchor t asked u ≡ At x → anchor t asked v ≡ At a → under t x a ≡ true → count t x ≤ count t a → x ≡ a
+    one-anchor : (x a : ℕ) → anchor t asked u ≡ Some x → anchor t asked v ≡ Some a → under t x a ≡ true → count t x ≤ count t a → x ≡ a
     one-anchor x a e f o le = go (eqb x a) refl
       where
         go : (b : Bool) → eqb x a ≡ b → x ≡ a
         go true q = eqb-true x a q
         go false q = absurd (omega (arith, le, count-more t (homes s) x a (found_in u lu x e) (found_in v lv a f) o (eqb-false x a q)))
 
-    over : (f f' : Found) → anchor t asked u ≡ f → anchor t asked v ≡ f' → rank_by t f / rank_step ≤ rank_by t f' / rank_step → f ≡ f'
+    over : (f f' : Option ℕ) → anchor t asked u ≡ f → anchor t asked v ≡ f' → rank_by t f / rank_step ≤ rank_by t f' / rank_step → f ≡ f'
     unfolding rank_by
-    over Nothing Nothing e e' le = refl
-    over Nothing (At a) e e' le = absurd (omega (arith, le, (rank_parts (count t a) (found-low v lv a e')).0, count-few s a))
-    over (At x) Nothing e e' le = let z = above x e in absurd (some (sym e' ∙ z.1))
-    over (At x) (At a) e e' le =
+    over None None e e' le = refl
+    over None (Some a) e e' le = absurd (omega (arith, le, (rank_parts (count t a) (found-low v lv a e')).0, count-few s a))
+    over (Some x) None e e' le = let z = above x e in absurd (some (sym e' ∙ z.1))
+    over (Some x) (Some a) e e' le =
         let z = above x e in
         let same : z.0 ≡ a = let q = sym z.1 ∙ e' in cc in
-        ap At
+        ap Some
         (one-anchor x a e e' (subst (λ (y : ℕ). under t x y ≡ true) same z.2)
         (omega (arith, le, (rank_parts (count t x) (found-low u lu x e)).0, (rank_parts (count t a) (found-low v lv a e')).0)))
 

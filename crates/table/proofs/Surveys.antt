@@ -22,7 +22,7 @@ most = node_limit * (node_limit * longest)
 
 module _ {g : Net} {row : List ℕ} (s : Surveyed g row) where
   pub fine : Sound g
-  fine = sound g s.taken
+  fine = sound g s.is_taken
 
   pub size_is : (tree_of g).size ≡ g.nodes
   unfolding tree_of

@@ -1,9 +1,9 @@
 -- The lent row as a whole: some entries afresh, and the table as the case of all. Assumes nothing.
+use Rattle.std.specs.Prelude.{Err, Ok, Result}
 use Rattle.std.proofs.Common.{◌≡◌, ℕ, ◌<◌, ◌≤◌, true, ltb, List, [], ◌∷◌, ◌++◌, replicate, sym, refl, ap, ◌∙◌, arith, ltb-false}
 use lib.ListN.{get_or-replicate}
 use Rattle.edition.specs.declared.Refusal.{Refusal}
-use Rattle.edition.specs.declared.Verdict.{Verdict}
-use Rattle.edition.specs.declared.Verdict.TheVariants.{Taken, Refused}
+use Rattle.edition.specs.Refusals.{Verdict, taken}
 use Rattle.edition.specs.declared.Why.TheVariants.{NoRoom}
 use Rattle.edition.specs.Limits.{node_limit}
 use Rattle.entries.specs.Row.{entry_row, entries_in, entry_at, past_entries}
@@ -15,8 +15,6 @@ use Rattle.rows.proofs.Records.{rows_cong}
 use Rattle.network.specs.Network.{Net}
 use Rattle.survey.specs.Row.{nodes_in}
 use Rattle.sound.specs.declared.Sizes.{Sizes}
-use Rattle.sound.specs.declared.Checked.{Checked}
-use Rattle.sound.specs.declared.Checked.TheVariants.{Sound}
 use Rattle.sound.specs.Sound.{net_verdict, checked}
 use Rattle.sound.proofs.Handing.{sound_told, handed_then}
 use Rattle.sound.proofs.Sounds.{sound}
@@ -28,8 +26,8 @@ use Rattle.table.specs.Table.{table, is_asked, fresh_at, table_verdict, work_ver
 
 -- 10, behind the check of the network
 pub table_judged :
-    (g : Net) (row : List ℕ) (s : Checked) (z : Sizes)
-    → s ≡ checked g → s ≡ Sound z → (k : ℕ) → k ≡ entries_in row → (w : Verdict)
+    (g : Net) (row : List ℕ) (s : Result Sizes Refusal) (z : Sizes)
+    → s ≡ checked g → s ≡ Ok z → (k : ℕ) → k ≡ entries_in row → (w : Verdict)
     → w ≡ refuse_if (ltb k z.nodes) NoRoom 0 → w ≡ table_verdict g row
 unfolding table_verdict
 table_judged g row s z e t k p w q =
@@ -39,33 +37,33 @@ table_judged g row s z e t k p w q =
 
 module _ (g : Net) (row : List ℕ) where
   -- what 1 to 10 leave
-  pub table_sound : (v : Verdict) → v ≡ table_verdict g row → v ≡ Taken → net_verdict g ≡ Taken
+  pub table_sound : (v : Verdict) → v ≡ table_verdict g row → v ≡ taken → net_verdict g ≡ taken
   unfolding table_verdict
   table_sound v q t = head_taken _ _ (sym q ∙ t)
 
-  pub table-room : (v : Verdict) → v ≡ table_verdict g row → v ≡ Taken → g.nodes ≤ entries_in row
+  pub table-room : (v : Verdict) → v ≡ table_verdict g row → v ≡ taken → g.nodes ≤ entries_in row
   unfolding table_verdict
   table-room v q t =
       ltb-false (entries_in row) g.nodes (if_taken_lem _ NoRoom 0 (head_taken _ _ (rest-taken _ _ (sym q ∙ t))))
 
   -- the verdict on the network, then that on the room
-  pub table-refused : (v : Verdict) (r : Refusal) → v ≡ net_verdict g → v ≡ Refused r → v ≡ table_verdict g row
+  pub table-refused : (v : Verdict) (r : Refusal) → v ≡ net_verdict g → v ≡ Err r → v ≡ table_verdict g row
   unfolding table_verdict
   table-refused v r q t = t ∙ sym (head_refuses _ _ r (sym q ∙ t))
 
-  pub table_decided : net_verdict g ≡ Taken → (k : ℕ) → k ≡ entries_in row → (w : Verdict) → w ≡ refuse_if (ltb k g.nodes) NoRoom 0 → w ≡ table_verdict g row
+  pub table_decided : net_verdict g ≡ taken → (k : ℕ) → k ≡ entries_in row → (w : Verdict) → w ≡ refuse_if (ltb k g.nodes) NoRoom 0 → w ≡ table_verdict g row
   unfolding table_verdict
   table_decided t k p w q = q ∙ ap (λ (j : ℕ). refuse_if (ltb j g.nodes) NoRoom 0) p ∙ sym (head_passes _ _ t ∙ only_one _)
 
   -- with a row for the survey
   module _ (survey : List ℕ) where
-    pub work_refused : (v : Verdict) (r : Refusal) → v ≡ sound_verdict g survey → v ≡ Refused r → v ≡ work_verdict g survey row
+    pub work_refused : (v : Verdict) (r : Refusal) → v ≡ sound_verdict g survey → v ≡ Err r → v ≡ work_verdict g survey row
     unfolding work_verdict
     work_refused v r q t = t ∙ sym (head_refuses _ _ r (sym q ∙ t))
 
     pub work_decided :
         (v : Verdict)
-        → v ≡ sound_verdict g survey → v ≡ Taken → (k : ℕ) → k ≡ entries_in row → (w : Verdict)
+        → v ≡ sound_verdict g survey → v ≡ taken → (k : ℕ) → k ≡ entries_in row → (w : Verdict)
         → w ≡ refuse_if (ltb k g.nodes) NoRoom 0 → w ≡ work_verdict g survey row
     unfolding work_verdict
     work_decided v e t k p w q =
@@ -78,13 +76,13 @@ module _ (g : Net) (row : List ℕ) where
   module _ (asked : List ℕ) where
     pub fresh_taken :
         (v : Verdict)
-        → v ≡ table_verdict g row → v ≡ Taken → (row' : List ℕ)
+        → v ≡ table_verdict g row → v ≡ taken → (row' : List ℕ)
         → row' ≡ rows_to (fresh_at g asked row) g.nodes ++ past_entries g.nodes row
-        → (Taken ≡ table_verdict g row) × (row' ≡ fresh_row g asked row)
+        → (taken ≡ table_verdict g row) × (row' ≡ fresh_row g asked row)
     unfolding fresh_row
     fresh_taken v q t row' h = (sym t ∙ q, rw (← q, t) h)
 
-    pub fresh_refused : (v : Verdict) (r : Refusal) → v ≡ table_verdict g row → v ≡ Refused r → (v ≡ table_verdict g row) × (row ≡ fresh_row g asked row)
+    pub fresh_refused : (v : Verdict) (r : Refusal) → v ≡ table_verdict g row → v ≡ Err r → (v ≡ table_verdict g row) × (row ≡ fresh_row g asked row)
     unfolding fresh_row
     fresh_refused v r q t = (q, rw (← q, t))
 
@@ -98,12 +96,12 @@ module _ (g : Net) (row : List ℕ) where
   all_fresh = go (table_verdict g row) refl
     where
       go : (v : Verdict) → table_verdict g row ≡ v → fresh_row g (replicate node_limit 1) row ≡ table_row g row
-      go Taken q =
+      go (Ok _) q =
           rw q
           (ap (λ (r : List ℕ). r ++ past_entries g.nodes row)
           (rows_cong (fresh_at g (replicate node_limit 1) row) (λ x. entry_row (entry g x)) g.nodes
-          (λ x l. rw (one-marked x (omega (arith, l, nodes-few g (sound g (table_sound Taken (sym q) refl))))))))
-      go (Refused r) q = rw q
+          (λ x l. rw (one-marked x (omega (arith, l, nodes-few g (sound g (table_sound taken (sym q) refl))))))))
+      go (Err r) q = rw q
 
 -- the entries of a row that begins with the table
 pub table-entry : (g : Net) (more : List ℕ) (x : ℕ) → x < g.nodes → entry_at (table g ++ more) x ≡ entry g x

@@ -1,10 +1,8 @@
 -- The table: an entry a node, in node order, in a lent row. Assumes nothing.
-use Rattle.std.specs.Prelude.{ℕ, Bool, cond, not, List, [], ◌∷◌, ◌++◌, ◌==◌, nat_le, nat_lt, slice_index}
-use Rattle.edition.specs.declared.Verdict.{Verdict}
-use Rattle.edition.specs.declared.Verdict.TheVariants.{Taken, Refused}
+use Rattle.std.specs.Prelude.{Err, Ok, Result, ℕ, Bool, cond, not, List, [], ◌∷◌, ◌++◌, ◌==◌, nat_le, nat_lt, slice_index}
+use Rattle.edition.specs.Refusals.{Verdict, if_taken}
 use Rattle.edition.specs.declared.Why.TheVariants.{NoRoute, NoRoom}
 use Rattle.edition.specs.declared.Entry.{Entry}
-use Rattle.edition.specs.Refusals.{if_taken}
 use Rattle.entries.specs.Row.{entry_row, entries_in, standing, past_entries}
 use Rattle.rows.specs.Count.{rows_to}
 use Rattle.rows.specs.First.{refuse_if, firstly}
@@ -12,8 +10,7 @@ use Rattle.network.specs.Network.{Net}
 use Rattle.sound.specs.Sound.{net_verdict}
 use Rattle.sound.specs.Surveyed.{sound_verdict}
 use Rattle.swap.specs.Entry.{entry}
-use Rattle.table.specs.declared.EntryAnswer.{EntryAnswer}
-use Rattle.table.specs.declared.EntryAnswer.TheVariants.{Is, Not}
+use Rattle.edition.specs.declared.Refusal.{Refusal}
 
 -- The record of each node's entry, one after the other.
 unfoldable pub table : Net → List ℕ
@@ -36,12 +33,12 @@ unfoldable pub entry_verdict : Net → ℕ → Verdict
 entry_verdict g x = firstly (net_verdict g ∷ refuse_if (nat_le g.nodes x) NoRoute x ∷ [])
 
 -- An entry where the verdict is taken, else the refusal.
-abbrev pub entry_if : Verdict → Entry → EntryAnswer
-entry_if Taken e = Is e
-entry_if (Refused r) e = Not r
+abbrev pub entry_if : Verdict → Entry → Result Entry Refusal
+entry_if (Ok _) e = Ok e
+entry_if (Err r) e = Err r
 
 -- What the call answers: the entry of x, or the refusal.
-unfoldable pub entry_answer : Net → ℕ → EntryAnswer
+unfoldable pub entry_answer : Net → ℕ → Result Entry Refusal
 entry_answer g x = entry_if (entry_verdict g x) (entry g x)
 
 -- Is a node asked for: is its number in the row not 0? Past the end it is 0.

@@ -1,9 +1,7 @@
 -- What private functions of this crate promise each other. No public promise cites this page. Assumes nothing.
+use Rattle.std.specs.Prelude.{None, Option, Some, slice_index_or}
 use Rattle.std.specs.Prelude.{◌≡◌, ℕ, suc, ◌+◌, ◌-◌, ◌*◌, ◌<◌, ◌≤◌, Bool, true, false, cond, ◌||◌, List, [], ◌∷◌, length, ◌==◌, ◌≢◌, nat_le, slice_index}
-use Rattle.std.specs.Prelude.{slice_index_or}
 use Rattle.edition.specs.declared.Search.{Search}
-use Rattle.edition.specs.declared.Found.{Found}
-use Rattle.edition.specs.declared.Found.TheVariants.{Nothing, At}
 use Rattle.edition.specs.Limits.{node_limit, whole_search, longest, no_node}
 use Rattle.edition.specs.Entries.{first_end, second_end, root_state, bridge_state, blank}
 use Rattle.edition.specs.declared.Measure.TheVariants.{Sum, Incr, Max}
@@ -32,12 +30,12 @@ pub record Entries (n : ℕ) (f : ℕ → List ℕ) (before after : List ℕ) : 
   pub rest : past_entries n after ≡ past_entries n before
 
 -- the first node of a list that is asked for
-unfoldable pub anchor_in : List ℕ → List ℕ → Found
-anchor_in asked [] = Nothing
-anchor_in asked (u ∷ r) = let rest = anchor_in asked r in cond (is_asked asked u) (At u) rest
+unfoldable pub anchor_in : List ℕ → List ℕ → Option ℕ
+anchor_in asked [] = None
+anchor_in asked (u ∷ r) = let rest = anchor_in asked r in cond (is_asked asked u) (Some u) rest
 
 -- the anchor of u: that of its route
-unfoldable pub anchor : Tree → List ℕ → ℕ → Found
+unfoldable pub anchor : Tree → List ℕ → ℕ → Option ℕ
 anchor t asked u = anchor_in asked (route t u)
 
 -- the two parts of a rank: so many times how many nodes are below, and the number plus 1
@@ -49,9 +47,9 @@ unfoldable pub rank_of : ℕ → ℕ → ℕ
 rank_of c x = c * rank_step + suc x
 
 -- the rank of an anchor; that of none is above all
-unfoldable pub rank_by : Tree → Found → ℕ
-rank_by t Nothing = no_node * rank_step
-rank_by t (At x) = rank_of (count t x) x
+unfoldable pub rank_by : Tree → Option ℕ → ℕ
+rank_by t None = no_node * rank_step
+rank_by t (Some x) = rank_of (count t x) x
 
 -- the rank of u: that of its anchor
 unfoldable pub rank : Tree → List ℕ → ℕ → ℕ

@@ -1,12 +1,12 @@
 // The table: all entries, some of them afresh, or one.
 #![tactic(auto)]
 
-ghost use Rattle.std.specs.Prelude.{◌≡◌, ℕ, ◌+◌, ◌*◌, ◌^◌, ◌<◌, ◌≤◌, max, true, false, List, ◌++◌, length, if◌then◌else◌, nat_eq, slice_index};
+ghost use Rattle.std.specs.Prelude.{◌≡◌, ℕ, ◌+◌, ◌*◌, ◌^◌, ◌<◌, ◌≤◌, true, false, List, ◌++◌, length, if◌then◌else◌, nat_eq, slice_index};
 ghost use Rattle.entries.specs.Row.{entries_in, put_entry, past_entries};
 ghost use Rattle.edition.specs.Entries.{blank, root_state, bridge_state, first_end, second_end};
 ghost use Rattle.edition.specs.Limits.{node_limit, longest};
-ghost use Rattle.edition.specs.declared.Verdict.TheVariants.{Taken};
-ghost use Rattle.network.specs.Network.{Net, net_of, links_in};
+ghost use Rattle.edition.specs.Refusals.{taken};
+ghost use Rattle.network.specs.Network.{Net, lent, links_in};
 ghost use Rattle.rows.specs.Count.{row_with, rows_to};
 ghost use Rattle.tree.specs.Tree.{tree_of, under};
 ghost use Rattle.survey.specs.Row.{nodes_in, known_at};
@@ -22,9 +22,8 @@ ghost use Rattle.table.specs.declared.Side.{Side};
 ghost use Rattle.table.specs.Prefix.{settled, all_settled, no_better, kept, tied_by, standing_by, offered, first_links};
 ghost use Rattle.table.specs.Table.{is_asked, fresh_at, table_verdict, work_verdict, fresh_row, table_row, entry_verdict, entry_answer};
 
-use edition::{Edition, Entry, Memory, Refusal, Search, Swap, Verdict, Why};
-use network::Link;
-use sound::Checked;
+use edition::{Edition, Entry, Memory, Refusal, Search, Swap, Why};
+use network::{Link, Network};
 use tree::Climb;
 
 // A candidate under a measure: its link number, its cost under it, its incr cost, and the mark of its lower end.
@@ -76,28 +75,6 @@ struct Bid {
     pub costs: Costs,
 }
 
-// The entry of one node, or why there is none.
-#[derive(Clone, Copy)]
-pub enum EntryAnswer {
-    Is(Entry),
-    Not(Refusal),
-}
-
-// The larger of two numbers.
-fn larger(a: u64, b: u64) -> u64
-    ensures { result ≡ max a b }
-{
-    if a < b { b } else { a }
-}
-
-// A product that fits.
-fn product(a: u64, b: u64) -> u64
-    requires { a * b < 2 ^ 64 }
-    ensures { result ≡ a * b }
-{
-    a * b
-}
-
 // A climb that begins at z, the end of a link with this mark.
 fn begin_side(survey: &[u64], z: usize, lower: u64) -> Side
     requires { (g : Net) × Starts g survey.now z }
@@ -131,11 +108,8 @@ impl Side {
         };
         Side {
             climb,
-            from: self.from,
-            lower: self.lower,
-            near: self.near,
-            turn: self.turn,
-            reach: larger(self.reach, (self.near - p.near) + (x.beside - p.near)),
+            reach: self.reach.max((self.near - p.near) + (x.beside - p.near)),
+            ..self
         }
     }
 }
@@ -146,16 +120,11 @@ impl Side {
 fn bid_of(side: Side, c: Costs) -> Bid
     ensures { result ≡ bid_of side c }
 {
-    let climb = side.climb;
     Bid {
-        node: climb.node,
-        hops: climb.hops,
+        node: side.climb.node,
+        hops: side.climb.hops,
         lower: side.lower,
-        costs: Costs {
-            sum: c.sum,
-            incr: c.incr,
-            max: c.max,
-        },
+        costs: c,
     }
 }
 
@@ -164,10 +133,9 @@ fn costs_of(survey: &[u64], side: Side, k: u64) -> Costs
     requires { (g : Net) × (e : ℕ) × Costing g survey.now e k side }
     ensures { (g : Net) (e : ℕ) → Costing g survey.now e k side → Priced g side.climb.node e result }
 {
-    let climb = side.climb;
-    let x = survey::known_at(survey, climb.node);
+    let x = survey::known_at(survey, side.climb.node);
     Costs {
-        sum: x.base + product(x.count, k) - side.turn,
+        sum: x.base + x.count * k - side.turn,
         incr: k - 2 * x.near,
         max: side.reach + (k - side.near),
     }
@@ -178,14 +146,11 @@ fn costs_of(survey: &[u64], side: Side, k: u64) -> Costs
 fn is_within(depth: u16, hops: usize) -> bool
     ensures { result ≡ within_by depth hops }
 {
-    if depth == Edition::WHOLE {
-        return true;
-    }
-    hops <= depth as usize
+    depth == Edition::WHOLE || hops <= depth as usize
 }
 
 // The better of a standing swap link, where there is one yet, and a later candidate. `tied` is what the standing one costs by incr where
-// that decides, and 0 elsewhere.
+// that decides, and 0 elsewhere. Each case returns by itself: one condition for all three makes the table slower.
 #[tactic(auto, unfolding(crate::specs::Prefix::kept))]
 fn keep(had: bool, tied: u64, old: Swap, new: Offer) -> Swap
     ensures { result ≡ kept had tied old new }
@@ -231,14 +196,11 @@ fn with_candidate(old: Entry, standing: Standing, e: u64, lower: u64, c: Costs) 
         incr: c.incr,
         lower,
     };
-    let s = old.sum;
-    let i = old.incr;
-    let m = old.max;
     Entry {
         state: Edition::SWAP,
-        sum: keep(had, standing.sum, s, sum),
-        incr: keep(had, 0, i, incr),
-        max: keep(had, standing.max, m, max),
+        sum: keep(had, standing.sum, old.sum, sum),
+        incr: keep(had, 0, old.incr, incr),
+        max: keep(had, standing.max, old.max, max),
     }
 }
 
@@ -250,14 +212,11 @@ fn with_crossing(old: Entry, standing: Standing, e: u64, lower: u64, c: Costs) -
     if old.state == Edition::SWAP {
         return old;
     }
-    let s = old.sum;
-    let i = old.incr;
-    let m = old.max;
     Entry {
         state: Edition::NONE,
-        sum: s,
-        incr: i,
-        max: m,
+        sum: old.sum,
+        incr: old.incr,
+        max: old.max,
     }
 }
 
@@ -266,28 +225,21 @@ fn with_link(old: Entry, standing: Standing, near: bool, e: u64, lower: u64, c: 
     ensures { result ≡ offered old standing near e lower c }
 {
     if near {
-        return with_candidate(old, standing, e, lower, c);
+        with_candidate(old, standing, e, lower, c)
+    } else {
+        with_crossing(old, standing, e, lower, c)
     }
-    with_crossing(old, standing, e, lower, c)
 }
 
 // Whether an entry has a swap link already and no cost of a link is lower than its own.
+#[tactic(auto, unfolding(crate::specs::Prefix::no_better))]
 fn no_better(old: Entry, c: Costs) -> bool
     ensures { result ≡ no_better old c }
 {
-    if old.state != Edition::SWAP {
-        return false;
-    }
-    let s = old.sum;
-    let i = old.incr;
-    let m = old.max;
-    if c.sum < s.cost {
-        return false;
-    }
-    if c.incr < i.cost {
-        return false;
-    }
-    m.cost <= c.max
+    old.state == Edition::SWAP
+        && old.sum.cost <= c.sum
+        && old.incr.cost <= c.incr
+        && old.max.cost <= c.max
 }
 
 // Whether a swap link stays before a candidate of no lower cost, whatever that costs by incr: the costs differ, or it is the swap link
@@ -296,10 +248,7 @@ fn no_better(old: Entry, c: Costs) -> bool
 fn is_settled(s: Swap, least: Swap, cost: u64) -> bool
     ensures { result ≡ settled s least cost }
 {
-    if s.cost != cost {
-        return true;
-    }
-    s.link == least.link
+    s.cost != cost || s.link == least.link
 }
 
 // Whether this holds under sum and under max.
@@ -307,13 +256,7 @@ fn is_settled(s: Swap, least: Swap, cost: u64) -> bool
 fn all_settled(old: Entry, c: Costs) -> bool
     ensures { result ≡ all_settled old c }
 {
-    let s = old.sum;
-    let i = old.incr;
-    let m = old.max;
-    if !is_settled(s, i, c.sum) {
-        return false;
-    }
-    is_settled(m, i, c.max)
+    is_settled(old.sum, old.incr, c.sum) && is_settled(old.max, old.incr, c.max)
 }
 
 // The way through a link: the distances of its ends and its length.
@@ -336,11 +279,7 @@ fn incr_of(links: &[u16], survey: &[u64], x: usize, b: u64) -> u64
 {
     let k = way_through(survey, network::link_at(links, b as usize));
     let at = survey::known_at(survey, x);
-    let own = 2 * at.near;
-    if k < own {
-        return 0;
-    }
-    k - own
+    k.saturating_sub(2 * at.near)
 }
 
 // What a swap link of node x costs it by incr, where that decides between it and a candidate of this cost; 0 elsewhere.
@@ -352,13 +291,11 @@ fn tied_incr(rule: u16, links: &[u16], survey: &[u64], x: usize, s: Swap, cost: 
         → Reads g links.now
         → result ≡ tied_by rule (incr_by g x) s cost }
 {
-    if cost != s.cost {
-        return 0;
+    if cost == s.cost && rule == Memory::NEARER {
+        incr_of(links, survey, x, s.link)
+    } else {
+        0
     }
-    if rule != Memory::NEARER {
-        return 0;
-    }
-    incr_of(links, survey, x, s.link)
 }
 
 // So under sum and under max, of an entry and a candidate of these costs.
@@ -370,11 +307,9 @@ fn standing_of(rule: u16, links: &[u16], survey: &[u64], x: usize, old: Entry, c
         → Reads g links.now
         → result ≡ standing_by rule (incr_by g x) old c }
 {
-    let s = old.sum;
-    let m = old.max;
     Standing {
-        sum: tied_incr(rule, links, survey, x, s, c.sum),
-        max: tied_incr(rule, links, survey, x, m, c.max),
+        sum: tied_incr(rule, links, survey, x, old.sum, c.sum),
+        max: tied_incr(rule, links, survey, x, old.max, c.max),
     }
 }
 
@@ -399,8 +334,7 @@ fn is_worth(search: Search, ranks: &[u32], entries: &[u64], side: Side, c: Costs
         → Priced g side.climb.node e c
         → Worth g g.nodes asked e side.climb.node row result) }
 {
-    let climb = side.climb;
-    let x = climb.node;
+    let x = side.climb.node;
     if ranks[x] % STEP != x as u32 + 1 {
         return false;
     }
@@ -422,10 +356,8 @@ fn standing_at(links: &[u16], search: Search, survey: &[u64], entries: &[u64], b
         → Bidding g search links.now asked survey.now ranks row e k side bid
         → result ≡ standing_in g search row bid) }
 {
-    let x = bid.node;
-    let c = bid.costs;
-    let old = entries::entry_there(entries, x);
-    standing_of(search.rule, links, survey, x, old, c)
+    let old = entries::entry_there(entries, bid.node);
+    standing_of(search.rule, links, survey, bid.node, old, bid.costs)
 }
 
 // Offers link e to a node that is asked for.
@@ -438,12 +370,37 @@ fn offer_at(search: Search, entries: &mut [u64], bid: Bid, standing: Standing, e
         → standing ≡ standing_in g search row bid
         → OfferedAt g g.nodes asked e side.climb.node row entries.new) }
 {
-    let x = bid.node;
-    let c = bid.costs;
-    let old = entries::entry_there(entries, x);
+    let old = entries::entry_there(entries, bid.node);
     let near_enough = is_within(search.depth, bid.hops);
-    let new = with_link(old, standing, near_enough, e as u64, bid.lower, c);
-    entries::put_there(entries, x, new);
+    let new = with_link(old, standing, near_enough, e as u64, bid.lower, bid.costs);
+    entries::put_there(entries, bid.node, new);
+}
+
+// Offers link e to the node where a climb is, where that node is asked for and the link can better its entry; k is the way through the
+// link. It is inlined, so that the loop which climbs need not keep the whole climb in memory.
+#[inline(always)]
+fn offer_here(
+    links: &[u16],
+    search: Search,
+    survey: &[u64],
+    ranks: &[u32],
+    entries: &mut [u64],
+    side: Side,
+    e: usize,
+    k: u64,
+)
+    requires { (g : Net) × (asked : List ℕ) × Offering g search links.now asked survey.now ranks.now entries.old e k side }
+    ensures { let row = entries.old in
+        ((g : Net) (asked : List ℕ)
+        → Offering g search links.now asked survey.now ranks.now row e k side
+        → OfferedAt g g.nodes asked e side.climb.node row entries.new) }
+{
+    let c = costs_of(survey, side, k);
+    if is_worth(search, ranks, entries, side, c) {
+        let bid = bid_of(side, c);
+        let standing = standing_at(links, search, survey, entries, bid);
+        offer_at(search, entries, bid, standing, e);
+    }
 }
 
 // The rank where a climb is.
@@ -451,9 +408,7 @@ fn rank_at(ranks: &[u32], side: Side) -> u32
     requires { (side.climb.node < node_limit) × (side.climb.node < length ranks.now) }
     ensures { result ≡ slice_index ranks.now side.climb.node }
 {
-    let climb = side.climb;
-    let x = climb.node;
-    ranks[x]
+    ranks[side.climb.node]
 }
 
 // Offers link e to every node asked for that it crosses, by a climb from each end up to where both have the same rank. The one
@@ -480,20 +435,10 @@ fn climb_link(
     let mut b = second;
     while rank_at(ranks, a) != rank_at(ranks, b) {
         if rank_at(ranks, b) / STEP < rank_at(ranks, a) / STEP {
-            let c = costs_of(survey, b, k);
-            if is_worth(search, ranks, entries, b, c) {
-                let bid = bid_of(b, c);
-                let standing = standing_at(links, search, survey, entries, bid);
-                offer_at(search, entries, bid, standing, e);
-            }
+            offer_here(links, search, survey, ranks, entries, b, e, k);
             b = b.step(survey);
         } else {
-            let c = costs_of(survey, a, k);
-            if is_worth(search, ranks, entries, a, c) {
-                let bid = bid_of(a, c);
-                let standing = standing_at(links, search, survey, entries, bid);
-                offer_at(search, entries, bid, standing, e);
-            }
+            offer_here(links, search, survey, ranks, entries, a, e, k);
             a = a.step(survey);
         }
     }
@@ -501,33 +446,25 @@ fn climb_link(
 
 // Offers link e to every node asked for that it crosses. A link out of service and a tree link cross none; a link whose ends have one
 // rank crosses none that is asked for.
-fn offer_link(
-    links: &[u16],
-    parents: &[u16],
-    search: Search,
-    survey: &[u64],
-    ranks: &[u32],
-    entries: &mut [u64],
-    e: usize,
-)
-    requires { let g = net_of links.now parents.now search in
-        ((asked : List ℕ) × Searching g asked survey.now ranks.now entries.old × (e < links_in links.now)) }
-    ensures { let g = net_of links.now parents.now search in
+fn offer_link(net: Network, survey: &[u64], ranks: &[u32], entries: &mut [u64], e: usize)
+    requires { let g = lent net in
+        ((asked : List ℕ) × Searching g asked survey.now ranks.now entries.old × (e < links_in net.links.now)) }
+    ensures { let g = lent net.entry in
         let row = entries.old in
         ((asked : List ℕ)
         → Searching g asked survey.now ranks.now row
         → Linked g g.nodes asked e row entries.new) }
 {
-    let l = network::link_at(links, e);
+    let l = network::link_at(net.links, e);
     if !network::in_service(l) {
         return;
     }
     let p = l.first as usize;
     let q = l.second as usize;
-    if network::parent_of(parents, p) as usize == e {
+    if network::parent_of(net.parents, p) as usize == e {
         return;
     }
-    if network::parent_of(parents, q) as usize == e {
+    if network::parent_of(net.parents, q) as usize == e {
         return;
     }
     if ranks[p] == ranks[q] {
@@ -536,7 +473,7 @@ fn offer_link(
     let a = begin_side(survey, p, Edition::FIRST);
     let b = begin_side(survey, q, Edition::SECOND);
     let k = a.near + l.length as u64 + b.near;
-    climb_link(links, search, survey, ranks, entries, a, b, e, k);
+    climb_link(net.links, net.search, survey, ranks, entries, a, b, e, k);
 }
 
 // The entry of x before any link: the root's, or a bridge's.
@@ -568,35 +505,23 @@ fn clear_asked(parents: &[u16], search: Search, asked: &[u64], entries: &mut [u6
         let first = start_at search.root asked.now before in
         Entries (length parents.now) first before entries.new }
 {
-    let mut x = 0;
-    while x < parents.len() {
+    for x in 0..parents.len() {
         clear_at(search, asked, entries, x);
-        x += 1;
     }
 }
 
 // Offers every link, in number order.
-fn offer_links(
-    links: &[u16],
-    parents: &[u16],
-    search: Search,
-    survey: &[u64],
-    ranks: &[u32],
-    entries: &mut [u64],
-)
-    requires { let g = net_of links.now parents.now search in
+fn offer_links(net: Network, survey: &[u64], ranks: &[u32], entries: &mut [u64])
+    requires { let g = lent net in
         ((asked : List ℕ) × Searching g asked survey.now ranks.now entries.old) }
-    ensures { let g = net_of links.now parents.now search in
+    ensures { let g = lent net.entry in
         let row = entries.old in
         ((asked : List ℕ)
         → Searching g asked survey.now ranks.now row
-        → LinkedTo g g.nodes asked (links_in links.now) row entries.new) }
+        → LinkedTo g g.nodes asked (links_in net.entry.links.now) row entries.new) }
 {
-    let m = network::links_in(links);
-    let mut e = 0;
-    while e < m {
-        offer_link(links, parents, search, survey, ranks, entries, e);
-        e += 1;
+    for e in 0..network::links_in(net.links) {
+        offer_link(net, survey, ranks, entries, e);
     }
 }
 
@@ -620,10 +545,8 @@ fn mark_ranks(survey: &[u64], asked: &[u64], root: usize, n: usize, ranks: &mut 
     ensures { let first = first_rank survey.now asked.now root in
         ranks.new ≡ row_with first n ranks.old }
 {
-    let mut x = 0;
-    while x < n {
+    for x in 0..n {
         ranks[x] = first_rank(survey, asked, root, x);
-        x += 1;
     }
 }
 
@@ -636,8 +559,7 @@ fn find_rank(survey: &[u64], ranks: &[u32], u: usize) -> u32
 {
     let mut c = u;
     while ranks[c] == 0 {
-        let k = survey::known_at(survey, c);
-        c = k.up as usize;
+        c = survey::known_at(survey, c).up as usize;
     }
     ranks[c]
 }
@@ -654,8 +576,7 @@ fn join_up(survey: &[u64], ranks: &mut [u32], u: usize, a: u32)
     let mut c = u;
     while ranks[c] == 0 {
         ranks[c] = a;
-        let k = survey::known_at(survey, c);
-        c = k.up as usize;
+        c = survey::known_at(survey, c).up as usize;
     }
 }
 
@@ -667,11 +588,9 @@ fn join_ranks(survey: &[u64], n: usize, ranks: &mut [u32])
         → g.nodes ≡ n
         → Ranked (tree_of g) asked ranks.new }
 {
-    let mut u = 0;
-    while u < n {
+    for u in 0..n {
         let a = find_rank(survey, ranks, u);
         join_up(survey, ranks, u, a);
-        u += 1;
     }
 }
 
@@ -687,61 +606,47 @@ fn fill_ranks(survey: &[u64], asked: &[u64], root: usize, n: usize, ranks: &mut 
 }
 
 // The entries of the nodes asked for afresh, by a survey of a sound network; all others, and what lies past the entries, stay.
-fn search_asked(
-    links: &[u16],
-    parents: &[u16],
-    search: Search,
-    survey: &[u64],
-    asked: &[u64],
-    entries: &mut [u64],
-)
-    requires { let g = net_of links.now parents.now search in
+fn search_asked(net: Network, survey: &[u64], asked: &[u64], entries: &mut [u64])
+    requires { let g = lent net in
         Surveyed g survey.now
-        × (length parents.now ≤ entries_in entries.old) }
-    ensures { let g = net_of links.now parents.now search in
-        Entries (length parents.now) (fresh_at g asked.now entries.old) entries.old entries.new }
+        × (length net.parents.now ≤ entries_in entries.old) }
+    ensures { let g = lent net.entry in
+        Entries (length net.entry.parents.now) (fresh_at g asked.now entries.old) entries.old entries.new }
 {
     let mut ranks = [0u32; Memory::NODES];
     fill_ranks(
         survey,
         asked,
-        search.root as usize,
-        parents.len(),
+        net.search.root as usize,
+        net.parents.len(),
         &mut ranks,
     );
-    clear_asked(parents, search, asked, entries);
-    offer_links(links, parents, search, survey, &ranks, entries);
+    clear_asked(net.parents, net.search, asked, entries);
+    offer_links(net, survey, &ranks, entries);
 }
 
 // The entries of the nodes asked for afresh, by a survey of the network, which is sound; all others, and what lies past the
 // entries, stay as they are.
-pub fn refresh_surveyed(
-    links: &[u16],
-    parents: &[u16],
-    search: Search,
-    survey: &[u64],
-    asked: &[u64],
-    entries: &mut [u64],
-)
-    requires { let g = net_of links.now parents.now search in
+pub fn refresh_surveyed(net: Network, survey: &[u64], asked: &[u64], entries: &mut [u64])
+    requires { let g = lent net in
         Surveyed g survey.now
-        × (length parents.now ≤ entries_in entries.old) }
-    ensures { let g = net_of links.now parents.now search in
-        let n = length parents.now in
+        × (length net.parents.now ≤ entries_in entries.old) }
+    ensures { let g = lent net.entry in
+        let n = length net.entry.parents.now in
         let before = entries.old in
         entries.new ≡ rows_to (fresh_at g asked.now before) n ++ past_entries n before }
 {
-    search_asked(links, parents, search, survey, asked, entries);
+    search_asked(net, survey, asked, entries);
 }
 
 // Whether a table can be worked out: refusals 1 to 4, 14, 5 to 9, then 10 where fewer entries are lent than there are nodes.
 #[tactic(auto, unfolding(crate::specs::Table::table_verdict, network::specs::Network::net_of))]
-pub fn check_table(links: &[u16], parents: &[u16], search: Search, entries: &[u64]) -> Verdict
-    ensures { let g = net_of links.now parents.now search in
+pub fn check_table(net: Network, entries: &[u64]) -> Result<(), Refusal>
+    ensures { let g = lent net.entry in
         result ≡ table_verdict g entries.now }
 {
-    let said = sound::check_network(links, parents, search);
-    let Checked::Sound(sizes) = said else {
+    let said = sound::check_network(net);
+    let Ok(sizes) = said else {
         return sound::handed_up(said);
     };
     rows::refuse_if(entries::entries_in(entries) < sizes.nodes, Why::NoRoom, 0)
@@ -750,64 +655,50 @@ pub fn check_table(links: &[u16], parents: &[u16], search: Search, entries: &[u6
 // The same, and in a lent row the survey of the network, which stands there where 1 to 8 and 14 refuse nothing. Before all of these 10,
 // where that row holds fewer records than memory has nodes.
 #[tactic(auto, unfolding(network::specs::Network::net_of))]
-pub fn survey_table(
-    links: &[u16],
-    parents: &[u16],
-    search: Search,
-    survey: &mut [u64],
-    entries: &[u64],
-) -> Verdict
-    ensures { let g = net_of links.now parents.now search in
+pub fn survey_table(net: Network, survey: &mut [u64], entries: &[u64]) -> Result<(), Refusal>
+    ensures { let g = lent net.entry in
         (result ≡ work_verdict g survey.old entries.now)
         × (survey.new ≡ sound_row g survey.old) }
 {
-    let said = sound::survey_network(links, parents, search, survey);
-    let Verdict::Taken = said else {
-        return said;
-    };
-    rows::refuse_if(entries::entries_in(entries) < parents.len(), Why::NoRoom, 0)
+    sound::survey_network(net, survey)?;
+    rows::refuse_if(
+        entries::entries_in(entries) < net.parents.len(),
+        Why::NoRoom,
+        0,
+    )
 }
 
 // The entries of the nodes asked for afresh, all others unwritten. A node is asked for by a number that is not 0.
 #[tactic(auto, unfolding(network::specs::Network::net_of))]
-pub fn refresh(
-    links: &[u16],
-    parents: &[u16],
-    search: Search,
-    asked: &[u64],
-    entries: &mut [u64],
-) -> Verdict
-    ensures { let g = net_of links.now parents.now search in
+pub fn refresh(net: Network, asked: &[u64], entries: &mut [u64]) -> Result<(), Refusal>
+    ensures { let g = lent net.entry in
         (result ≡ table_verdict g entries.old)
         × (entries.new ≡ fresh_row g asked.now entries.old) }
 {
     let mut survey = [0u64; survey::ROW];
-    let said = survey_table(links, parents, search, &mut survey, entries);
-    let Verdict::Taken = said else {
-        return said;
-    };
-    refresh_surveyed(links, parents, search, &survey, asked, entries);
-    Verdict::Taken
+    survey_table(net, &mut survey, entries)?;
+    refresh_surveyed(net, &survey, asked, entries);
+    Ok(())
 }
 
 // The table of all entries, into a lent row. Nothing is written on a refusal, nor past the last entry.
-pub fn table(links: &[u16], parents: &[u16], search: Search, entries: &mut [u64]) -> Verdict
-    ensures { let g = net_of links.now parents.now search in
+pub fn table(net: Network, entries: &mut [u64]) -> Result<(), Refusal>
+    ensures { let g = lent net.entry in
         (result ≡ table_verdict g entries.old)
         × (entries.new ≡ table_row g entries.old) }
 {
     let asked = [1u64; Memory::NODES];
-    refresh(links, parents, search, &asked, entries)
+    refresh(net, &asked, entries)
 }
 
 // Whether a number has an entry: refusals 1 to 4, 14, 5 to 9, then 8 where it is no node.
 #[tactic(auto, unfolding(crate::specs::Table::entry_verdict, network::specs::Network::net_of))]
-pub fn check_entry(links: &[u16], parents: &[u16], search: Search, x: usize) -> Verdict
-    ensures { let g = net_of links.now parents.now search in
+pub fn check_entry(net: Network, x: usize) -> Result<(), Refusal>
+    ensures { let g = lent net.entry in
         result ≡ entry_verdict g x }
 {
-    let said = sound::check_network(links, parents, search);
-    let Checked::Sound(sizes) = said else {
+    let said = sound::check_network(net);
+    let Ok(sizes) = said else {
         return sound::handed_up(said);
     };
     rows::refuse_if(sizes.nodes <= x, Why::NoRoute, x)
@@ -866,76 +757,50 @@ fn with_crossed(
 {
     let side = climb_to(survey, end_side(survey, l, first), x);
     let c = costs_of(survey, side, way_through(survey, l));
-    let climb = side.climb;
-    let near_enough = is_within(search.depth, climb.hops);
+    let near_enough = is_within(search.depth, side.climb.hops);
     let standing = standing_of(search.rule, links, survey, x, old, c);
     with_link(old, standing, near_enough, e as u64, side.lower, c)
 }
 
 // The entry of x with one more link, e. A link that does not cross x leaves it.
-fn with_next(
-    links: &[u16],
-    parents: &[u16],
-    search: Search,
-    survey: &[u64],
-    ranks: &[u32],
-    x: usize,
-    old: Entry,
-    e: usize,
-) -> Entry
-    requires { let g = net_of links.now parents.now search in
-        Telling g x survey.now ranks.now × (e < links_in links.now) × (old ≡ entry (first_links g e) x) }
-    ensures { let g = net_of links.now parents.now search in
+fn with_next(net: Network, survey: &[u64], ranks: &[u32], x: usize, old: Entry, e: usize) -> Entry
+    requires { let g = lent net in
+        Telling g x survey.now ranks.now × (e < links_in net.links.now) × (old ≡ entry (first_links g e) x) }
+    ensures { let g = lent net.entry in
         result ≡ entry (first_links g (e + 1)) x }
 {
-    let l = network::link_at(links, e);
+    let l = network::link_at(net.links, e);
     if !network::in_service(l) {
         return old;
     }
-    if network::parent_of(parents, x) as usize == e {
+    if network::parent_of(net.parents, x) as usize == e {
         return old;
     }
     let first = is_below(ranks, x, l.first as usize);
     if first == is_below(ranks, x, l.second as usize) {
         return old;
     }
-    with_crossed(links, search, survey, x, old, e, l, first)
+    with_crossed(net.links, net.search, survey, x, old, e, l, first)
 }
 
 // The entry of x, from that before any link on, link after link.
-fn carry_entry(
-    links: &[u16],
-    parents: &[u16],
-    search: Search,
-    survey: &[u64],
-    ranks: &[u32],
-    x: usize,
-) -> Entry
-    requires { let g = net_of links.now parents.now search in Telling g x survey.now ranks.now }
-    ensures { let g = net_of links.now parents.now search in
+fn carry_entry(net: Network, survey: &[u64], ranks: &[u32], x: usize) -> Entry
+    requires { let g = lent net in Telling g x survey.now ranks.now }
+    ensures { let g = lent net.entry in
         result ≡ entry g x }
 {
-    let m = network::links_in(links);
-    let mut it = first_entry(search, x);
-    let mut e = 0;
-    while e < m {
-        it = with_next(links, parents, search, survey, ranks, x, it, e);
-        e += 1;
+    let mut it = first_entry(net.search, x);
+    for e in 0..network::links_in(net.links) {
+        it = with_next(net, survey, ranks, x, it, e);
     }
     it
 }
 
 // The entry of node x, by a survey of the network, which is sound; it works out no other entry, and holds no row of entries.
-pub fn entry_surveyed(
-    links: &[u16],
-    parents: &[u16],
-    search: Search,
-    survey: &[u64],
-    x: usize,
-) -> Entry
-    requires { let g = net_of links.now parents.now search in
-        Surveyed g survey.now × (x < length parents.now) }
-    ensures { let g = net_of links.now parents.now search in result ≡ entry g x }
+pub fn entry_surveyed(net: Network, survey: &[u64], x: usize) -> Entry
+    requires { let g = lent net in
+        Surveyed g survey.now × (x < length net.parents.now) }
+    ensures { let g = lent net.entry in result ≡ entry g x }
 {
     let mut asked = [0u64; Memory::NODES];
     asked[x] = 1;
@@ -943,27 +808,21 @@ pub fn entry_surveyed(
     fill_ranks(
         survey,
         &asked,
-        search.root as usize,
-        parents.len(),
+        net.search.root as usize,
+        net.parents.len(),
         &mut ranks,
     );
-    carry_entry(links, parents, search, survey, &ranks, x)
+    carry_entry(net, survey, &ranks, x)
 }
 
 // The entry of node x.
 #[tactic(auto, unfolding(network::specs::Network::net_of))]
-pub fn entry_of(links: &[u16], parents: &[u16], search: Search, x: usize) -> EntryAnswer
-    ensures { let g = net_of links.now parents.now search in
+pub fn entry_of(net: Network, x: usize) -> Result<Entry, Refusal>
+    ensures { let g = lent net.entry in
         result ≡ entry_answer g x }
 {
     let mut survey = [0u64; survey::ROW];
-    let said = sound::survey_network(links, parents, search, &mut survey);
-    if let Verdict::Refused(why) = said {
-        return EntryAnswer::Not(why);
-    }
-    let there = rows::refuse_if(parents.len() <= x, Why::NoRoute, x);
-    match there {
-        Verdict::Taken => EntryAnswer::Is(entry_surveyed(links, parents, search, &survey, x)),
-        Verdict::Refused(why) => EntryAnswer::Not(why),
-    }
+    sound::survey_network(net, &mut survey)?;
+    rows::refuse_if(net.parents.len() <= x, Why::NoRoute, x)?;
+    Ok(entry_surveyed(net, &survey, x))
 }

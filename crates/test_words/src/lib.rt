@@ -52,9 +52,7 @@ pub fn head_of(bytes: &[u8]) -> Head
 pub fn decode(bytes: &[u8], row: &mut [u16])
     ensures { row.new ≡ words_in bytes.now (length row.old) }
 {
-    let mut i = 0;
-    while i < row.len() {
+    for i in 0..row.len() {
         row[i] = word(bytes, i);
-        i += 1;
     }
 }

@@ -1,3 +1,4 @@
+pub mod Naming
 pub mod Numbering
 pub mod Scanning
 pub mod Wording

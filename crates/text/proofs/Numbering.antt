@@ -1,7 +1,7 @@
 -- Lines one after the other: the next one begins behind this one, and the number that a cursor carries is that of its line, one
 -- more than how many lines end before it. Assumes nothing.
-use mathlib.Core.Path.{◌≡◌, refl, sym, ◌∙◌}
-use mathlib.Core.Bool.{Bool, true, false, cond, not, true≢false}
+use mathlib.Core.Path.{◌≡◌, refl, ◌∙◌}
+use mathlib.Core.Bool.{Bool, true, false, cond, not}
 use mathlib.Core.List.{List, [], ◌∷◌}
 use Prim.Native.Nat.{ℕ, zero, suc, ◌+◌, ◌-◌, ◌<◌, ◌≤◌, min}
 use native.Mathlib.Omega.{arith}
@@ -15,15 +15,8 @@ use Rattle.rows.proofs.Counting.{sum_bound}
 use Rattle.text.specs.declared.Cursor.{Cursor}
 use Rattle.text.specs.declared.Step.{Step}
 use Rattle.text.specs.Words.{newline, byte_at, seek_from, line_end, line_number, is_named, first_line, next_line}
+use Rattle.text.proofs.Naming.{not_true, not_false}
 use Rattle.text.proofs.Scanning.{seek_here, seek_past, seek_end}
-
-not_true : (b : Bool) → not b ≡ false → b ≡ true
-not_true true e = refl
-not_true false e = absurd (true≢false e)
-
-not_false : (b : Bool) → not b ≡ true → b ≡ false
-not_false false e = refl
-not_false true e = absurd (true≢false (sym e))
 
 -- How many of the places below k pass.
 abbrev passing : (ℕ → Bool) → ℕ → ℕ

@@ -1,16 +1,14 @@
 -- The loops over a text: what they keep, and what they end with. Assumes nothing.
 use mathlib.Core.Path.{◌≡◌, refl, sym, ap, ◌∙◌}
-use mathlib.Core.Bool.{Bool, true, false, not}
+use mathlib.Core.Bool.{Bool, true, false}
 use mathlib.Core.List.{List}
-use Prim.Native.Nat.{ℕ, suc, ◌+◌, ◌-◌, ◌<◌, ◌≤◌}
+use Prim.Native.Nat.{ℕ, suc, ◌+◌, ◌-◌, ◌<◌, ◌≤◌, max}
 use native.Mathlib.Numerals.{add-one}
 use native.Mathlib.Omega.{arith}
-use lib.Dec.{eqb, leb}
-use lib.ListN.{length, get_or, get_or-eq_default}
-use borrow.Author.Tests.{eq-eqb, ne_eqb, leb-true, leb-false}
-use Rattle.rows.specs.Count.{some_to}
-use Rattle.rows.proofs.Best.{none_some, one_some}
-use Rattle.rows.proofs.Tests.{lastly}
+use lib.Dec.{leb}
+use lib.ListN.{length, get_or-eq_default}
+use borrow.Author.Tests.{leb-true, leb-false}
+use Rattle.std.specs.Prelude.{Some, None, option_and_then}
 use Rattle.text.specs.Words.{newline, byte_at, seek_from, with_digit, number_from}
 
 -- of the places from i to before `stop` the first is i
@@ -46,9 +44,6 @@ pub record Scanning (p : ℕ → Bool) (from stop i : ℕ) : Type 0 where
   pub is : seek_from p from (stop - from) ≡ seek_from p i (stop - i)
 
 module _ (p : ℕ → Bool) (from stop : ℕ) where
-  pub scan_start : Scanning p from stop from
-  scan_start = record { is = refl }
-
   module _ (i : ℕ) (s : Scanning p from stop i) where
     pub scan_more : i < stop → p i ≡ false → Scanning p from stop (i + 1)
     scan_more l e =
@@ -57,14 +52,29 @@ module _ (p : ℕ → Bool) (from stop : ℕ) where
     pub scan_found : i < stop → p i ≡ true → i ≡ seek_from p from (stop - from)
     scan_found l e = sym (s.is ∙ (ap (seek_from p i) (less_one i stop l) ∙ seek_here p i (stop - suc i) e))
 
-    pub scan_none : stop ≤ i → i ≡ seek_from p from (stop - from)
-    scan_none l = sym (s.is ∙ (ap (seek_from p i) (none_left i stop l) ∙ seek_end p i))
+    -- no place passes: the loop has come to its end, or had none
+    pub scan_none : stop ≤ i → (from ≤ stop → i ≤ stop) → (r : ℕ) → r ≡ max from stop → r ≡ seek_from p from (stop - from)
+    scan_none l m r q = go (leb from stop) refl
+      where
+        go : (b : Bool) → leb from stop ≡ b → r ≡ seek_from p from (stop - from)
+        go true e =
+            let end : r ≡ i = omega (arith, leb-true from stop e) in
+            end ∙ sym (s.is ∙ (ap (seek_from p i) (none_left i stop l) ∙ seek_end p i))
+        go false e =
+            let start : r ≡ from = omega (arith, leb-false from stop e) in
+            start ∙ sym (ap (seek_from p from) (none_left from stop (omega (arith, leb-false from stop e))) ∙ seek_end p from)
 
-number_more : (text : List ℕ) (v i k : ℕ) → number_from text v i (suc k) ≡ number_from text (with_digit v (byte_at text i)) (suc i) k
+number_more :
+    (text : List ℕ) (v i k w : ℕ)
+    → Some w ≡ with_digit v (byte_at text i) → number_from text v i (suc k) ≡ number_from text w (suc i) k
 unfolding number_from
-number_more text v i k = refl
+number_more text v i k w e = ap (option_and_then (λ u. number_from text u (suc i) k)) (sym e)
 
-number_end : (text : List ℕ) (v i : ℕ) → number_from text v i 0 ≡ v
+number_none : (text : List ℕ) (v i k : ℕ) → None ≡ with_digit v (byte_at text i) → number_from text v i (suc k) ≡ None
+unfolding number_from
+number_none text v i k e = ap (option_and_then (λ u. number_from text u (suc i) k)) (sym e)
+
+number_end : (text : List ℕ) (v i : ℕ) → number_from text v i 0 ≡ Some v
 unfolding number_from
 number_end text v i = refl
 
@@ -73,56 +83,23 @@ pub record Spelling (text : List ℕ) (from to v i : ℕ) : Type 0 where
   pub is : number_from text 0 from (to - from) ≡ number_from text v i (to - i)
 
 module _ (text : List ℕ) (from to : ℕ) where
-  pub spell_start : Spelling text from to 0 from
-  spell_start = record { is = refl }
-
   module _ (v i : ℕ) (s : Spelling text from to v i) where
-    pub spell_more : i < to → (w : ℕ) → w ≡ with_digit v (byte_at text i) → Spelling text from to w (i + 1)
+    pub spell_more : i < to → (w : ℕ) → Some w ≡ with_digit v (byte_at text i) → Spelling text from to w (i + 1)
     spell_more l w e =
         record {
           is =
               rw add-one
-              (s.is
-              ∙ (ap (number_from text v i) (less_one i to l)
-              ∙ (number_more text v i (to - suc i) ∙ ap (λ u. number_from text u (suc i) (to - suc i)) (sym e))));
+              (s.is ∙ (ap (number_from text v i) (less_one i to l) ∙ number_more text v i (to - suc i) w e));
         }
 
-    pub spell_done : to ≤ i → v ≡ number_from text 0 from (to - from)
+    pub spell_none : i < to → None ≡ with_digit v (byte_at text i) → None ≡ number_from text 0 from (to - from)
+    spell_none l e = sym (s.is ∙ (ap (number_from text v i) (less_one i to l) ∙ number_none text v i (to - suc i) e))
+
+    pub spell_done : to ≤ i → Some v ≡ number_from text 0 from (to - from)
     spell_done l = sym (s.is ∙ (ap (number_from text v i) (none_left i to l) ∙ number_end text v i))
 
--- Do the byte at a place from `from` on and the name's differ?
-abbrev pub differ : List ℕ → ℕ → List ℕ → ℕ → Bool
-differ text from name i = not (eqb (byte_at text (from + i)) (get_or name i newline))
+-- the goals of a loop that spells a number
+pub ruleset spelling = (spell_more, spell_none, spell_done)
 
--- the first i bytes are those of the name
-pub record Matching (text : List ℕ) (from : ℕ) (name : List ℕ) (i : ℕ) : Type 0 where
-  pub same : (j : ℕ) → j < i → differ text from name j ≡ false
-
-module _ (text : List ℕ) (from : ℕ) (name : List ℕ) where
-  pub match_start : Matching text from name 0
-  match_start = record { same = λ j l. absurd (omega arith) }
-
-  module _ (i : ℕ) (s : Matching text from name i) where
-    pub match_more : (a b : ℕ) → a ≡ byte_at text (from + i) → b ≡ byte_at name i → a ≡ b → Matching text from name (i + 1)
-    unfolding byte_at
-    match_more a b e f g =
-        record {
-          same =
-              rw add-one
-              (lastly (λ j. differ text from name j ≡ false) i s.same
-              (ap not (eq-eqb (byte_at text (from + i)) (byte_at name i) (sym e ∙ (g ∙ f)))));
-        }
-
-    pub match_not :
-        i < length name
-        → (a b : ℕ) → a ≡ byte_at text (from + i) → b ≡ byte_at name i → (a ≡ b → ⊥)
-        → false ≡ not (some_to (differ text from name) (length name))
-    unfolding byte_at
-    match_not l a b e f g =
-        sym
-        (ap not
-        (one_some (differ text from name) (length name) i l
-        (ap not (ne_eqb (byte_at text (from + i)) (byte_at name i) (λ h. g (e ∙ (h ∙ sym f)))))))
-
-    pub match_all : length name ≤ i → true ≡ not (some_to (differ text from name) (length name))
-    match_all l = sym (ap not (none_some (differ text from name) (length name) (λ j m. s.same j (omega arith))))
+-- the goals of a loop that seeks
+pub ruleset scans = (scan_more, scan_found, scan_none)

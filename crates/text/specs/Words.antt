@@ -1,41 +1,17 @@
 -- Plain text: lines, words, and what a word is. A place past the text counts as the end of a line. Assumes nothing.
+use Rattle.std.specs.Prelude.{Option, Some, None, option_and_then}
 use Rattle.std.specs.Prelude.{Bool, cond, not, ◌&&◌, ◌||◌, List, [], ◌∷◌, ℕ, zero, suc, ◌+◌, ◌*◌, ◌-◌, min, eqb, leb, ltb, length, get_or}
 use Rattle.edition.specs.Limits.{served, withdrawn}
 use Rattle.rows.specs.Count.{some_to, sum_to, only_if}
+use Rattle.text.specs.declared.Word.{Word}
+use Rattle.text.specs.declared.Word.TheVariants.{Number, Root, Depth, Link, Node, Whole, Up, Down, Other, End}
 use Rattle.text.specs.declared.Line.{Line}
 use Rattle.text.specs.declared.Cursor.{Cursor}
 use Rattle.text.specs.declared.Step.{Step}
 
--- The largest number that a word can be, and the marks of the other words: the names, none of them, no word.
+-- The largest number that a word can be.
 abbrev pub most_number : ℕ
 most_number = 65535
-
-abbrev pub root_word : ℕ
-root_word = 65536
-
-abbrev pub depth_word : ℕ
-depth_word = 65537
-
-abbrev pub link_word : ℕ
-link_word = 65538
-
-abbrev pub node_word : ℕ
-node_word = 65539
-
-abbrev pub whole_word : ℕ
-whole_word = 65540
-
-abbrev pub up_word : ℕ
-up_word = 65541
-
-abbrev pub down_word : ℕ
-down_word = 65542
-
-abbrev pub other_word : ℕ
-other_word = 65543
-
-abbrev pub no_word : ℕ
-no_word = 65544
 
 -- The byte that ends a line.
 abbrev pub newline : ℕ
@@ -70,45 +46,48 @@ unfoldable pub word_to : List ℕ → ℕ → ℕ → ℕ
 word_to text from end = seek_from (λ i. is_past (byte_at text i)) from (end - from)
 
 -- A number with one more digit; no number where that is none, or where it gets too large.
-unfoldable pub with_digit : ℕ → ℕ → ℕ
+unfoldable pub with_digit : ℕ → ℕ → Option ℕ
 with_digit v b =
     let longer = v * 10 + (b - 48) in
-    cond (leb v most_number && (leb 48 b && (leb b 57 && leb longer most_number))) longer other_word
+    cond (leb 48 b && (leb b 57 && leb longer most_number)) (Some longer) None
 
--- A number with the digits at the k places from i on.
-unfoldable pub number_from : List ℕ → ℕ → ℕ → ℕ → ℕ
-number_from text v i zero = v
-number_from text v i (suc k) = number_from text (with_digit v (byte_at text i)) (suc i) k
+-- A number with the digits at the k places from i on; no number where one of them makes none.
+unfoldable pub number_from : List ℕ → ℕ → ℕ → ℕ → Option ℕ
+number_from text v i zero = Some v
+number_from text v i (suc k) = option_and_then (λ w. number_from text w (suc i) k) (with_digit v (byte_at text i))
 
 -- Are the bytes from one place to before another the name?
 unfoldable pub is_named : List ℕ → ℕ → ℕ → List ℕ → Bool
 is_named text from to name =
     eqb (from + length name) to && (leb to (length text) && not (some_to (λ i. not (eqb (byte_at text (from + i)) (get_or name i newline))) (length name)))
 
--- The mark of the word from one place to before another, by its name: link, node, root, depth.
-unfoldable pub kind_of : List ℕ → ℕ → ℕ → ℕ
+-- The word from one place to before another, by its name: link, node, root, depth.
+unfoldable pub kind_of : List ℕ → ℕ → ℕ → Word
 kind_of text from to =
-    cond (is_named text from to (108 ∷ 105 ∷ 110 ∷ 107 ∷ [])) link_word
-    (cond (is_named text from to (110 ∷ 111 ∷ 100 ∷ 101 ∷ [])) node_word
-    (cond (is_named text from to (114 ∷ 111 ∷ 111 ∷ 116 ∷ [])) root_word
-    (cond (is_named text from to (100 ∷ 101 ∷ 112 ∷ 116 ∷ 104 ∷ [])) depth_word other_word)))
+    cond (is_named text from to (108 ∷ 105 ∷ 110 ∷ 107 ∷ [])) Link
+    (cond (is_named text from to (110 ∷ 111 ∷ 100 ∷ 101 ∷ [])) Node
+    (cond (is_named text from to (114 ∷ 111 ∷ 111 ∷ 116 ∷ [])) Root
+    (cond (is_named text from to (100 ∷ 101 ∷ 112 ∷ 116 ∷ 104 ∷ [])) Depth Other)))
 
 -- The same among all names: up, down, whole, and those.
-unfoldable pub name_of : List ℕ → ℕ → ℕ → ℕ
+unfoldable pub name_of : List ℕ → ℕ → ℕ → Word
 name_of text from to =
-    cond (is_named text from to (117 ∷ 112 ∷ [])) up_word
-    (cond (is_named text from to (100 ∷ 111 ∷ 119 ∷ 110 ∷ [])) down_word
-    (cond (is_named text from to (119 ∷ 104 ∷ 111 ∷ 108 ∷ 101 ∷ [])) whole_word (kind_of text from to)))
+    cond (is_named text from to (117 ∷ 112 ∷ [])) Up
+    (cond (is_named text from to (100 ∷ 111 ∷ 119 ∷ 110 ∷ [])) Down
+    (cond (is_named text from to (119 ∷ 104 ∷ 111 ∷ 108 ∷ 101 ∷ [])) Whole (kind_of text from to)))
+
+-- The number where there is one, else the name.
+unfoldable pub number_or : Option ℕ → Word → Word
+number_or (Some number) name = Number number
+number_or None name = name
 
 -- What the word from one place to before another is.
-unfoldable pub value_of : List ℕ → ℕ → ℕ → ℕ
-value_of text from to =
-    let number = number_from text 0 from (to - from) in
-    cond (leb to from) no_word (cond (leb number most_number) number (name_of text from to))
+unfoldable pub word_of : List ℕ → ℕ → ℕ → Word
+word_of text from to = cond (leb to from) End (number_or (number_from text 0 from (to - from)) (name_of text from to))
 
 -- The words of a line from a place to its end: what the next is, and where it ends.
-unfoldable pub next_value : List ℕ → ℕ → ℕ → ℕ
-next_value text end at = let from = word_from text at end in value_of text from (word_to text from end)
+unfoldable pub next_word : List ℕ → ℕ → ℕ → Word
+next_word text end at = let from = word_from text at end in word_of text from (word_to text from end)
 
 unfoldable pub next_end : List ℕ → ℕ → ℕ → ℕ
 next_end text end at = word_to text (word_from text at end) end
@@ -122,13 +101,13 @@ line_of text at end =
     let e = next_end text end d in
     let rest = next_end text end e in
     record {
-      kind = next_value text end at;
-      a = next_value text end a;
-      b = next_value text end b;
-      c = next_value text end c;
-      d = next_value text end d;
-      e = next_value text end e;
-      rest = next_value text end rest;
+      kind = next_word text end at;
+      a = next_word text end a;
+      b = next_word text end b;
+      c = next_word text end c;
+      d = next_word text end d;
+      e = next_word text end e;
+      rest = next_word text end rest;
     }
 
 -- The number of the line of a place: one more than how many lines end before it.
@@ -156,5 +135,6 @@ unfoldable pub is_torn : List ℕ → ℕ → Bool
 is_torn text at = let end = line_end text at in ltb (seek_from (is_stray text) at (end - at)) end
 
 -- The service mark that a word names.
-unfoldable pub mark_of : ℕ → ℕ
-mark_of word = cond (eqb word up_word) served withdrawn
+unfoldable pub mark_of : Word → ℕ
+mark_of Up = served
+mark_of _ = withdrawn

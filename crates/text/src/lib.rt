@@ -1,58 +1,55 @@
 // Plain text by lines and words: what the desk programs read. Words stand between blanks; `#` begins a comment, which goes to
-// the end of the line. A word is answered as one number: itself where it is a number up to `Word::MOST`, else one of the marks.
+// the end of the line.
 #![tactic(auto)]
 
-ghost use Rattle.std.specs.Prelude.{◌≡◌, not, ◌+◌, ◌-◌, ◌≤◌, min, eqb, length, get_or};
-ghost use Rattle.rows.specs.Count.{some_to};
-ghost use Rattle.text.specs.Words.{newline, byte_at, seek_from, is_blank, is_past, line_end, word_from, word_to};
-ghost use Rattle.text.specs.Words.{with_digit, number_from, is_named, kind_of, name_of, value_of};
-ghost use Rattle.text.specs.Words.{next_value, next_end, line_of, first_line, next_line, is_stray, is_torn, mark_of};
+ghost use Rattle.std.specs.Prelude.{◌≡◌, ◌-◌, length};
+ghost use Rattle.text.specs.Words.{byte_at, seek_from, is_blank, is_past, line_end, word_from, word_to};
+ghost use Rattle.text.specs.Words.{with_digit, number_from, is_named, kind_of, name_of, word_of};
+ghost use Rattle.text.specs.Words.{next_word, next_end, line_of, first_line, next_line, is_stray, is_torn, mark_of};
 
 use edition::Edition;
 
-// A word of a line: its value, and where it ends.
-#[derive(Clone, Copy)]
-pub struct Word {
-    pub value: u32,
-    pub to: usize,
+// What a word of a line is.
+#[derive(Clone, Copy, PartialEq, Eq)]
+pub enum Word {
+    // A number up to `Word::MOST`.
+    Number(u16),
+    // The names.
+    Root,
+    Depth,
+    Link,
+    Node,
+    Whole,
+    Up,
+    Down,
+    // Neither a number nor a name.
+    Other,
+    // No word: the line has ended.
+    End,
 }
 
 impl Word {
     // The largest number.
-    pub const MOST: u32 = 0xffff;
+    pub const MOST: u16 = 0xffff;
+}
 
-    // The names.
-    pub const ROOT: u32 = Word::MOST + 1;
-
-    pub const DEPTH: u32 = Word::MOST + 2;
-
-    pub const LINK: u32 = Word::MOST + 3;
-
-    pub const NODE: u32 = Word::MOST + 4;
-
-    pub const WHOLE: u32 = Word::MOST + 5;
-
-    pub const UP: u32 = Word::MOST + 6;
-
-    pub const DOWN: u32 = Word::MOST + 7;
-
-    // Neither a number nor a name.
-    pub const OTHER: u32 = Word::MOST + 8;
-
-    // No word: the line has ended.
-    pub const NONE: u32 = Word::MOST + 9;
+// A word of a line, and the place where it ends.
+#[derive(Clone, Copy)]
+struct Found {
+    word: Word,
+    to: usize,
 }
 
 // The words of a line, in their order; `rest` is the one behind the longest line that has a meaning.
 #[derive(Clone, Copy)]
 pub struct Line {
-    pub kind: u32,
-    pub a: u32,
-    pub b: u32,
-    pub c: u32,
-    pub d: u32,
-    pub e: u32,
-    pub rest: u32,
+    pub kind: Word,
+    pub a: Word,
+    pub b: Word,
+    pub c: Word,
+    pub d: Word,
+    pub e: Word,
+    pub rest: Word,
 }
 
 // A line of a text: the place where it begins, and its number, from 1 on.
@@ -74,22 +71,20 @@ pub struct Step {
 fn byte_at(text: &[u8], i: usize) -> u8
     ensures { result ≡ byte_at text.now i }
 {
-    if i < text.len() { text[i] } else { b'\n' }
+    text.get(i).copied().unwrap_or(b'\n')
 }
 
 // Where the line that holds a place ends: at the next end of line, or at the text's end.
-#[tactic(auto, unfolding(crate::specs::Words::line_end))]
+#[tactic(auto, using(crate::proofs::Scanning::scans), unfolding(crate::specs::Words::line_end))]
 fn line_end(text: &[u8], at: usize) -> usize
     ensures { result ≡ line_end text.now at }
 {
-    let mut i = at;
-    while i < text.len() {
+    for i in at..text.len() {
         if byte_at(text, i) == b'\n' {
             return i;
         }
-        i += 1;
     }
-    i
+    at.max(text.len())
 }
 
 // Whether a byte stands between words.
@@ -97,13 +92,7 @@ fn line_end(text: &[u8], at: usize) -> usize
 fn is_blank(byte: u8) -> bool
     ensures { result ≡ is_blank byte }
 {
-    if byte == b' ' {
-        return true;
-    }
-    if byte == b'\t' {
-        return true;
-    }
-    byte == b'\r'
+    byte == b' ' || byte == b'\t' || byte == b'\r'
 }
 
 // Whether a byte ends a word: a blank, or the begin of a comment.
@@ -111,176 +100,139 @@ fn is_blank(byte: u8) -> bool
 fn is_past(byte: u8) -> bool
     ensures { result ≡ is_past byte }
 {
-    if byte == b'#' {
-        return true;
-    }
-    is_blank(byte)
+    byte == b'#' || is_blank(byte)
 }
 
 // Where the next word begins, or the line's end where there is none.
-#[tactic(auto, unfolding(crate::specs::Words::word_from))]
+#[tactic(auto, using(crate::proofs::Scanning::scans), unfolding(crate::specs::Words::word_from))]
 fn word_from(text: &[u8], at: usize, end: usize) -> usize
     ensures { result ≡ word_from text.now at end }
 {
-    let mut i = at;
-    while i < end {
+    for i in at..end {
         if !is_blank(byte_at(text, i)) {
             return i;
         }
-        i += 1;
     }
-    i
+    at.max(end)
 }
 
 // Where the word that begins at a place ends.
-#[tactic(auto, unfolding(crate::specs::Words::word_to))]
+#[tactic(auto, using(crate::proofs::Scanning::scans), unfolding(crate::specs::Words::word_to))]
 fn word_to(text: &[u8], from: usize, end: usize) -> usize
     ensures { result ≡ word_to text.now from end }
 {
-    let mut i = from;
-    while i < end {
+    for i in from..end {
         if is_past(byte_at(text, i)) {
             return i;
         }
-        i += 1;
     }
-    i
+    from.max(end)
 }
 
 // A number with one more digit; no number where that is none or the number gets too large.
 #[tactic(auto, unfolding(crate::specs::Words::with_digit))]
-fn with_digit(value: u32, byte: u8) -> u32
+fn with_digit(value: u16, byte: u8) -> Option<u16>
     ensures { result ≡ with_digit value byte }
 {
-    if Word::MOST < value {
-        return Word::OTHER;
+    if byte < b'0' || b'9' < byte {
+        return None;
     }
-    if byte < b'0' {
-        return Word::OTHER;
+    let longer = value as u32 * 10 + (byte - b'0') as u32;
+    if longer > Word::MOST as u32 {
+        return None;
     }
-    if b'9' < byte {
-        return Word::OTHER;
-    }
-    let longer = value * 10 + (byte - b'0') as u32;
-    if Word::MOST < longer {
-        return Word::OTHER;
-    }
-    longer
+    Some(longer as u16)
 }
 
-// The number that the bytes from one place to before another spell.
-fn number_of(text: &[u8], from: usize, to: usize) -> u32
+// The number that the bytes from one place to before another spell, if they do.
+#[tactic(auto, using(crate::proofs::Scanning::spelling))]
+fn number_of(text: &[u8], from: usize, to: usize) -> Option<u16>
     ensures { result ≡ number_from text.now 0 from (to - from) }
 {
     let mut value = 0;
-    let mut i = from;
-    while i < to {
-        value = with_digit(value, byte_at(text, i));
-        i += 1;
+    for i in from..to {
+        value = with_digit(value, byte_at(text, i))?;
     }
-    value
-}
-
-// Whether the bytes from a place on are those of the name, as many as it has.
-fn is_same(text: &[u8], from: usize, name: &[u8]) -> bool
-    requires { from + length name.now ≤ length text.now }
-    ensures { let name' = name.now in
-        let text' = text.now in
-        result ≡ not (some_to (λ i. not (eqb (byte_at text' (from + i)) (get_or name' i newline))) (length name')) }
-{
-    let mut i = 0;
-    while i < name.len() {
-        if byte_at(text, from + i) != byte_at(name, i) {
-            return false;
-        }
-        i += 1;
-    }
-    true
+    Some(value)
 }
 
 // Whether the bytes from one place to before another are the name.
-#[tactic(auto, unfolding(crate::specs::Words::is_named))]
+#[tactic(auto, using(crate::proofs::Naming::named_is, crate::proofs::Naming::not_named))]
 fn is_named(text: &[u8], from: usize, to: usize, name: &[u8]) -> bool
     ensures { result ≡ is_named text.now from to name.now }
 {
-    if to < from {
-        return false;
+    match text.get(from..to) {
+        Some(word) => word == name,
+        None => false,
     }
-    if to - from != name.len() {
-        return false;
-    }
-    if text.len() < to {
-        return false;
-    }
-    is_same(text, from, name)
 }
 
-// The mark of the name among those that begin a line.
+// The name among those that begin a line.
 #[tactic(auto, unfolding(crate::specs::Words::kind_of))]
-fn kind_of(text: &[u8], from: usize, to: usize) -> u32
+fn kind_of(text: &[u8], from: usize, to: usize) -> Word
     ensures { result ≡ kind_of text.now from to }
 {
     if is_named(text, from, to, b"link") {
-        return Word::LINK;
+        return Word::Link;
     }
     if is_named(text, from, to, b"node") {
-        return Word::NODE;
+        return Word::Node;
     }
     if is_named(text, from, to, b"root") {
-        return Word::ROOT;
+        return Word::Root;
     }
     if is_named(text, from, to, b"depth") {
-        return Word::DEPTH;
+        return Word::Depth;
     }
-    Word::OTHER
+    Word::Other
 }
 
-// The mark of the name, among all of them.
+// The name, among all of them.
 #[tactic(auto, unfolding(crate::specs::Words::name_of))]
-fn name_of(text: &[u8], from: usize, to: usize) -> u32
+fn name_of(text: &[u8], from: usize, to: usize) -> Word
     ensures { result ≡ name_of text.now from to }
 {
     if is_named(text, from, to, b"up") {
-        return Word::UP;
+        return Word::Up;
     }
     if is_named(text, from, to, b"down") {
-        return Word::DOWN;
+        return Word::Down;
     }
     if is_named(text, from, to, b"whole") {
-        return Word::WHOLE;
+        return Word::Whole;
     }
     kind_of(text, from, to)
 }
 
-// The value of the word from one place to before another.
-#[tactic(auto, unfolding(crate::specs::Words::value_of))]
-fn value_of(text: &[u8], from: usize, to: usize) -> u32
-    ensures { result ≡ value_of text.now from to }
+// The word from one place to before another.
+#[tactic(auto, using(crate::proofs::Wording::worded))]
+fn word_of(text: &[u8], from: usize, to: usize) -> Word
+    ensures { result ≡ word_of text.now from to }
 {
     if to <= from {
-        return Word::NONE;
+        return Word::End;
     }
-    let number = number_of(text, from, to);
-    if number <= Word::MOST {
-        return number;
+    match number_of(text, from, to) {
+        Some(number) => Word::Number(number),
+        None => name_of(text, from, to),
     }
-    name_of(text, from, to)
 }
 
 // The next word of a line from a place on.
-#[tactic(auto, unfolding(crate::specs::Words::next_value, crate::specs::Words::next_end))]
-fn next(text: &[u8], at: usize, end: usize) -> Word
-    ensures { (result.value ≡ next_value text.now end at) × (result.to ≡ next_end text.now end at) }
+#[tactic(auto, unfolding(crate::specs::Words::next_word, crate::specs::Words::next_end))]
+fn next(text: &[u8], at: usize, end: usize) -> Found
+    ensures { (result.word ≡ next_word text.now end at) × (result.to ≡ next_end text.now end at) }
 {
     let from = word_from(text, at, end);
     let to = word_to(text, from, end);
-    Word {
-        value: value_of(text, from, to),
+    Found {
+        word: word_of(text, from, to),
         to,
     }
 }
 
 // The words of the line from a place to its end.
+#[tactic(auto, using(crate::proofs::Wording::line_is))]
 fn line_of(text: &[u8], at: usize, end: usize) -> Line
     ensures { result ≡ line_of text.now at end }
 {
@@ -292,52 +244,35 @@ fn line_of(text: &[u8], at: usize, end: usize) -> Line
     let e = next(text, d.to, end);
     let rest = next(text, e.to, end);
     Line {
-        kind: kind.value,
-        a: a.value,
-        b: b.value,
-        c: c.value,
-        d: d.value,
-        e: e.value,
-        rest: rest.value,
+        kind: kind.word,
+        a: a.word,
+        b: b.word,
+        c: c.word,
+        d: d.word,
+        e: e.word,
+        rest: rest.word,
     }
 }
 
 // Whether the byte at a place is a carriage return with no line feed behind it.
-#[tactic(auto, unfolding(crate::specs::Words::is_stray))]
+#[tactic(auto, using(crate::proofs::Scanning::other_within), unfolding(crate::specs::Words::is_stray))]
 fn is_stray(text: &[u8], i: usize) -> bool
     ensures { result ≡ is_stray text.now i }
 {
-    if byte_at(text, i) != b'\r' {
-        return false;
-    }
-    if i + 1 == text.len() {
-        return true;
-    }
-    byte_at(text, i + 1) != b'\n'
+    byte_at(text, i) == b'\r' && (i + 1 == text.len() || byte_at(text, i + 1) != b'\n')
 }
 
 // The first place of such a byte before the line's end, or the line's end where there is none.
+#[tactic(auto, using(crate::proofs::Scanning::scans))]
 fn stray_from(text: &[u8], at: usize, end: usize) -> usize
     ensures { result ≡ seek_from (is_stray text.now) at (end - at) }
 {
-    let mut i = at;
-    while i < end {
+    for i in at..end {
         if is_stray(text, i) {
             return i;
         }
-        i += 1;
     }
-    i
-}
-
-// The smaller of a number and the text's length.
-fn within(text: &[u8], n: usize) -> usize
-    ensures { (result ≤ length text.now) × (result ≡ min n (length text.now)) }
-{
-    if n < text.len() {
-        return n;
-    }
-    text.len()
+    at.max(end)
 }
 
 impl Cursor {
@@ -372,22 +307,22 @@ impl Cursor {
         Step {
             line: line_of(text, self.at, end),
             next: Cursor {
-                at: within(text, end) + 1,
-                number: within(text, self.number) + 1,
+                at: end.min(text.len()) + 1,
+                number: self.number.min(text.len()) + 1,
             },
         }
     }
 }
 
 // The service mark that a word of a line names: `up` is in service, any other word withdrawn.
-#[tactic(auto, unfolding(crate::specs::Words::mark_of))]
-pub fn mark_of(word: u32) -> u16
+#[tactic(auto, using(crate::proofs::Wording::marked))]
+pub fn mark_of(word: Word) -> u16
     ensures { result ≡ mark_of word }
 {
-    if word == Word::UP {
-        return Edition::SERVED;
+    match word {
+        Word::Up => Edition::SERVED,
+        _ => Edition::WITHDRAWN,
     }
-    Edition::WITHDRAWN
 }
 
 // Whether two words are the same.

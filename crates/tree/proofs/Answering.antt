@@ -1,11 +1,11 @@
 -- What is answered of one node, of two, and of all: from the verdicts and climbs of the code to the definitions. Assumes nothing.
+use Rattle.std.specs.Prelude.{Err, Ok, Result}
 use Rattle.std.proofs.Common.{◌≡◌, ℕ, ◌+◌, ◌*◌, ◌<◌, ◌≤◌, false, ◌&&◌, ltb, List, [], ◌∷◌, ◌++◌, length, drop, sym, refl, ap, ◌∙◌, le_trans, mul-le-mul_right}
 use Rattle.std.proofs.Common.{arith, ltb-false, ltb-true, le-ltb}
 use lib.Seq.{sets, sets-eq}
 use borrow.Author.Tests.{not-false}
 use Rattle.edition.specs.declared.Refusal.{Refusal}
-use Rattle.edition.specs.declared.Verdict.{Verdict}
-use Rattle.edition.specs.declared.Verdict.TheVariants.{Taken, Refused}
+use Rattle.edition.specs.Refusals.{Verdict, taken}
 use Rattle.edition.specs.declared.Why.TheVariants.{NodeCount, NoRoute, NoRoom}
 use Rattle.edition.specs.declared.Search.{Search}
 use Rattle.edition.specs.Limits.{node_limit, memory_limits}
@@ -18,10 +18,8 @@ use Rattle.rows.proofs.Refusing.{both_taken, none_left, if_passes, head_taken, r
 use Rattle.network.specs.Network.{Net, net_of}
 use Rattle.network.specs.Records.{bad_nodes}
 use Rattle.tree.specs.declared.Climb.{Climb}
-use Rattle.tree.specs.declared.Answer.{Answer}
-use Rattle.tree.specs.declared.Answer.TheVariants.{Is}
 use Rattle.tree.specs.Tree.{Tree, tree_of, climb, route, has_route, dist, meet, apart}
-use Rattle.tree.specs.Answers.{room_verdict, row_verdict, distance_row, lost, way_verdict, answer_if, route_verdict, route_row, route_answer}
+use Rattle.tree.specs.Answers.{room_verdict, row_verdict, distance_row, lost, way_verdict, route_verdict, route_row, route_answer}
 use Rattle.tree.specs.Answers.{ways_verdict, meet_answer, apart_answer}
 use Rattle.tree.specs.Work.{Rooted, Routed}
 use Rattle.tree.proofs.Ways.{Way, top, hop, Home, way, nodes_of_lem, route-length}
@@ -33,18 +31,18 @@ pub few-nodes : (n : ℕ) → bad_nodes memory_limits n ≡ false → n ≤ node
 few-nodes n h = nodes-within memory_limits n h
 
 -- what a row that is taken has
-pub room-taken : (n room : ℕ) → room_verdict n room ≡ Taken → (n ≤ node_limit) × (n ≤ room)
+pub room-taken : (n room : ℕ) → room_verdict n room ≡ taken → (n ≤ node_limit) × (n ≤ room)
 unfolding room_verdict
 room-taken n room h =
     (few-nodes n (if_taken_lem _ NodeCount 0 (head_taken _ _ h)), ltb-false room n (if_taken_lem _ NoRoom 0 (head_taken _ _ (rest-taken _ _ h))))
 
-pub room_passes : (n room : ℕ) → bad_nodes memory_limits n ≡ false → n ≤ room → room_verdict n room ≡ Taken
+pub room_passes : (n room : ℕ) → bad_nodes memory_limits n ≡ false → n ≤ room → room_verdict n room ≡ taken
 unfolding room_verdict
 room_passes n room h l =
     both_taken _ _ (if_passes _ NodeCount 0 h) (both_taken _ _ (if_passes _ NoRoom 0 (le-ltb room n l)) none_left)
 
 -- what a node that is taken has
-way-taken : (g : Net) (u : ℕ) → way_verdict g u ≡ Taken → (g.nodes ≤ node_limit) × (u < g.nodes) × Home (tree_of g) u
+way-taken : (g : Net) (u : ℕ) → way_verdict g u ≡ taken → (g.nodes ≤ node_limit) × (u < g.nodes) × Home (tree_of g) u
 unfolding way_verdict lost
 way-taken g u h =
     let e = not-false (ltb u g.nodes && has_route (tree_of g) u) (if_taken_lem _ NoRoute u (head_taken _ _ (rest-taken _ _ h))) in (
@@ -53,7 +51,7 @@ way-taken g u h =
       and_right (ltb u g.nodes) (has_route (tree_of g) u) e,
     )
 
-ways_taken : (g : Net) (u z : ℕ) → ways_verdict g u z ≡ Taken → (way_verdict g u ≡ Taken) × (way_verdict g z ≡ Taken)
+ways_taken : (g : Net) (u z : ℕ) → ways_verdict g u z ≡ taken → (way_verdict g u ≡ taken) × (way_verdict g z ≡ taken)
 unfolding ways_verdict
 ways_taken g u z h = (head_taken _ _ h, head_taken _ _ (rest-taken _ _ h))
 
@@ -85,74 +83,51 @@ module _ (t : Tree) where
   dist-small most few u =
       le_trans (total_bound t.rise most few (route t u)) (mul-le-mul_right most (route-length t u))
 
--- a refusal handed up as an answer
-refused-answer : (v w : Verdict) (r : Refusal) (a : Answer) (d : ℕ) → v ≡ Refused r → w ≡ Refused r → a ≡ answer_if v 0 → a ≡ answer_if w d
-refused-answer v w r a d p q e = e ∙ rw (p, q)
-
 -- the room was found to be enough
-pub fits-room : (room k : ℕ) (v : Verdict) → v ≡ refuse_if (ltb room k) NoRoom 0 → v ≡ Taken → k ≤ room
+pub fits-room : (room k : ℕ) (v : Verdict) → v ≡ refuse_if (ltb room k) NoRoom 0 → v ≡ taken → k ≤ room
 fits-room room k v q p = ltb-false room k (if_taken_lem _ NoRoom 0 (sym q ∙ p))
 
 module _ (g : Net) (u : ℕ) (row : List ℕ) where
-  -- the route is refused for the node
-  pub route-lost :
-      (v : Verdict) (r : Refusal) (a : Answer)
-      → v ≡ way_verdict g u → v ≡ Refused r → a ≡ answer_if v 0 → (a ≡ route_answer g u row) × (row ≡ route_row g u row)
-  unfolding route_answer route_row route_verdict
-  route-lost v r a q p e =
-      let w = head_refuses (way_verdict g u) _ r (sym q ∙ p) in
-      (refused-answer v _ r a _ p w e, rw w)
-
   -- the route is refused for room
   pub route_tight :
       (k : ℕ)
-      → way_verdict g u ≡ Taken → k ≡ length (route (tree_of g) u) → (v : Verdict) (r : Refusal) (a : Answer)
-      → v ≡ refuse_if (ltb (length row) k) NoRoom 0 → v ≡ Refused r → a ≡ answer_if v 0
+      → way_verdict g u ≡ taken → k ≡ length (route (tree_of g) u) → (v : Verdict) (r : Refusal) (a : Result ℕ Refusal)
+      → v ≡ refuse_if (ltb (length row) k) NoRoom 0 → v ≡ Err r → a ≡ Err r
       → (a ≡ route_answer g u row) × (row ≡ route_row g u row)
   unfolding route_answer route_row route_verdict
   route_tight k t l v r a q p e =
       let w = head_passes (way_verdict g u) _ t ∙ head_refuses _ [] r (sym (q ∙ ap (λ (j : ℕ). refuse_if (ltb (length row) j) NoRoom 0) l) ∙ p) in
-      (refused-answer v _ r a _ p w e, rw w)
+      rw w (e, refl)
 
   -- the route is written
   pub route_written :
       (k : ℕ)
-      → way_verdict g u ≡ Taken → k ≡ length (route (tree_of g) u) → (v : Verdict)
-      → v ≡ refuse_if (ltb (length row) k) NoRoom 0 → v ≡ Taken → (d : ℕ) (after : List ℕ)
-      → Routed (tree_of g) k u 0 row d after → (Is d ≡ route_answer g u row) × (after ≡ route_row g u row)
+      → way_verdict g u ≡ taken → k ≡ length (route (tree_of g) u) → (v : Verdict)
+      → v ≡ refuse_if (ltb (length row) k) NoRoom 0 → v ≡ taken → (d : ℕ) (after : List ℕ)
+      → Routed (tree_of g) k u 0 row d after → (Ok d ≡ route_answer g u row) × (after ≡ route_row g u row)
   unfolding route_answer route_row route_verdict
   route_written k t l v q p d after s =
       let w =
       head_passes (way_verdict g u) (refuse_if (ltb (length row) (length (route (tree_of g) u))) NoRoom 0 ∷ []) t
       ∙ only_one _ ∙ sym (q ∙ ap (λ (j : ℕ). refuse_if (ltb (length row) j) NoRoom 0) l) ∙ p in
       let z = routed_whole (tree_of g) u (way-taken g u t).2 k l row after d (fits-room (length row) k v q p) s in
-      rw w (ap Is z.0, z.1)
+      rw w (ap Ok z.0, z.1)
 
 module _ (g : Net) (u z : ℕ) where
-  pub ways_lost :
-      (v : Verdict) (r : Refusal) (a : Answer)
-      → v ≡ ways_verdict g u z → v ≡ Refused r → a ≡ answer_if v 0 → (a ≡ meet_answer g u z) × (a ≡ apart_answer g u z)
-  unfolding meet_answer apart_answer
-  ways_lost v r a q p e = (refused-answer v _ r a _ p (sym q ∙ p) e, refused-answer v _ r a _ p (sym q ∙ p) e)
-
-  module _ (t : ways_verdict g u z ≡ Taken) (d : ℕ) where
-    pub met : d ≡ meet (tree_of g) u z → Is d ≡ meet_answer g u z
+  module _ (t : ways_verdict g u z ≡ taken) (d : ℕ) where
+    pub met : d ≡ meet (tree_of g) u z → Ok d ≡ meet_answer g u z
     unfolding meet_answer
-    met q = rw t (ap Is q)
+    met q = rw t (ap Ok q)
 
-    pub parted : d ≡ apart (tree_of g) u z → Is d ≡ apart_answer g u z
+    pub parted : d ≡ apart (tree_of g) u z → Ok d ≡ apart_answer g u z
     unfolding apart_answer
-    parted q = rw t (ap Is q)
+    parted q = rw t (ap Ok q)
 
 module _ (g : Net) (row : List ℕ) where
-  pub rows_refused : (v : Verdict) (r : Refusal) → v ≡ room_verdict g.nodes (length row) → v ≡ Refused r → (v ≡ row_verdict g row) × (row ≡ distance_row g row)
-  unfolding distance_row
-  rows_refused v r q p = (q, rw (sym q ∙ p))
-
   pub distances_filled :
       (v : Verdict)
-      → v ≡ room_verdict g.nodes (length row) → v ≡ Taken → (after : List ℕ)
-      → after ≡ row_with (dist (tree_of g)) g.nodes row → (Taken ≡ row_verdict g row) × (after ≡ distance_row g row)
+      → v ≡ room_verdict g.nodes (length row) → v ≡ taken → (after : List ℕ)
+      → after ≡ row_with (dist (tree_of g)) g.nodes row → (taken ≡ row_verdict g row) × (after ≡ distance_row g row)
   unfolding distance_row
   distances_filled v q p after e = (sym p ∙ q, rw (sym q ∙ p) e)
 
@@ -163,14 +138,14 @@ module _ (links parents : List ℕ) (search : Search) where
 
   pub way-known :
       (u : ℕ) (v : Verdict)
-      → v ≡ way_verdict g u → v ≡ Taken
+      → v ≡ way_verdict g u → v ≡ taken
       → (length parents ≤ node_limit) × Home (tree_of g) u
   unfolding net_of
   way-known u v q p = let z = way-taken g u (sym q ∙ p) in (z.0, z.2)
 
   pub ways_known :
       (u z : ℕ) (v : Verdict)
-      → v ≡ ways_verdict g u z → v ≡ Taken
+      → v ≡ ways_verdict g u z → v ≡ taken
       → (length parents ≤ node_limit)
       × Home (tree_of g) u × Home (tree_of g) z
   ways_known u z v q p =

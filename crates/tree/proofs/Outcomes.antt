@@ -2,8 +2,7 @@
 use Rattle.std.proofs.Common.{ℕ, List}
 use Rattle.edition.specs.declared.Search.{Search}
 use Rattle.network.specs.Network.{net_of}
-use Rattle.tree.specs.Answers.{begun, stepped, room_verdict, row_verdict, distance_row, way_verdict, route_answer, route_row}
-use Rattle.tree.specs.Answers.{meet_answer, apart_answer}
+use Rattle.tree.specs.Answers.{begun, stepped, room_verdict, row_verdict, distance_row, way_verdict, route_answer, route_row, meet_answer, apart_answer}
 use Rattle.tree.specs.Tree.{tree_of, has_route}
 use Rattle.tree.specs.declared.Climb.{Climb}
 use Rattle.edition.proofs.Only.{One, one}

@@ -1,18 +1,15 @@
 -- What is asked of the tree alone: a climbing cursor, the distances of all nodes, the route of one, the tree distance of
 -- two. None of these checks the network beyond what it needs: n within the limit, a node that has a route, room. Assumes nothing.
-use Rattle.std.specs.Prelude.{ℕ, ◌+◌, ◌%◌, ◌^◌, Bool, not, ◌&&◌, List, [], ◌∷◌, ◌++◌, length, drop, nat_lt}
-use Rattle.edition.specs.declared.Verdict.{Verdict}
-use Rattle.edition.specs.declared.Verdict.TheVariants.{Taken, Refused}
+use Rattle.std.specs.Prelude.{Err, Ok, Result, ℕ, ◌+◌, ◌%◌, ◌^◌, Bool, not, ◌&&◌, List, [], ◌∷◌, ◌++◌, length, drop, nat_lt}
+use Rattle.edition.specs.Refusals.{Verdict, if_taken}
 use Rattle.edition.specs.declared.Why.TheVariants.{NodeCount, NoRoute, NoRoom}
 use Rattle.edition.specs.Limits.{memory_limits}
-use Rattle.edition.specs.Refusals.{if_taken}
 use Rattle.rows.specs.Count.{row_with}
 use Rattle.rows.specs.First.{refuse_if, firstly}
 use Rattle.network.specs.Network.{Net}
 use Rattle.network.specs.Records.{bad_nodes}
 use Rattle.tree.specs.declared.Climb.{Climb}
-use Rattle.tree.specs.declared.Answer.{Answer}
-use Rattle.tree.specs.declared.Answer.TheVariants.{Is, Not}
+use Rattle.edition.specs.declared.Refusal.{Refusal}
 use Rattle.tree.specs.Tree.{Tree, tree_of, route, has_route, dist, meet, apart}
 
 -- A climb that begins at u.
@@ -53,9 +50,9 @@ way_verdict g u =
     refuse_if (lost g u) NoRoute u ∷ [])
 
 -- A number where the verdict is taken, else the refusal.
-abbrev pub answer_if : Verdict → ℕ → Answer
-answer_if Taken d = Is d
-answer_if (Refused r) d = Not r
+abbrev pub answer_if : Verdict → ℕ → Result ℕ Refusal
+answer_if (Ok _) d = Ok d
+answer_if (Err r) d = Err r
 
 -- The route of u: 1, 8, then 10 where the row cannot hold it.
 unfoldable pub route_verdict : Net → ℕ → List ℕ → Verdict
@@ -70,7 +67,7 @@ route_row g u row =
     if_taken (route_verdict g u row) new row
 
 -- The length of the route of u.
-unfoldable pub route_answer : Net → ℕ → List ℕ → Answer
+unfoldable pub route_answer : Net → ℕ → List ℕ → Result ℕ Refusal
 route_answer g u row = let d = dist (tree_of g) u in answer_if (route_verdict g u row) d
 
 -- Of two nodes: 1, 8 at u, 8 at z.
@@ -78,9 +75,9 @@ unfoldable pub ways_verdict : Net → ℕ → ℕ → Verdict
 ways_verdict g u z = firstly (way_verdict g u ∷ way_verdict g z ∷ [])
 
 -- Where the routes of u and z first meet.
-unfoldable pub meet_answer : Net → ℕ → ℕ → Answer
+unfoldable pub meet_answer : Net → ℕ → ℕ → Result ℕ Refusal
 meet_answer g u z = let c = meet (tree_of g) u z in answer_if (ways_verdict g u z) c
 
 -- t(u,z).
-unfoldable pub apart_answer : Net → ℕ → ℕ → Answer
+unfoldable pub apart_answer : Net → ℕ → ℕ → Result ℕ Refusal
 apart_answer g u z = let d = apart (tree_of g) u z in answer_if (ways_verdict g u z) d

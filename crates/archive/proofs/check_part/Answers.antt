@@ -1,14 +1,9 @@
 -- `archive::check_part` meets its contract. Assumes nothing.
 use native.Mathlib.Omega.{arith}
 use Prim.Native.Nat.{◌-◌, ◌*◌, ◌+◌}
-use Rattle.archive.proofs.Parting.{part_small}
 use Rattle.archive.proofs.BlockChecks.{part_refusal}
 use Rattle.edition.specs.Stored.{block_bytes}
 use Rattle.archive.proofs.check_part.Goals as goal
-
-pub overflow_cast-part-2 : goal.overflow_cast-part-2
-overflow_cast-part-2 c =
-    omega (arith, part_small _ _ _ _ c.part_at-part.ensures)
 
 pub returns : goal.returns
 returns c =

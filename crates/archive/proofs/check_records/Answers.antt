@@ -14,7 +14,7 @@ fill_parents-requires c =
 pub check_content-requires : goal.check_content-requires
 check_content-requires c = (
   entries-placed _ _ c.requires.0 _ _ c.fill_links.ensures _ _ c.fill_parents.ensures _
-      c.first_links.ensures _ c.first.ensures,
+      c.first_links-links.ensures _ c.first-parents.ensures,
   c.requires.1,
 )
 
@@ -22,5 +22,5 @@ pub returns : goal.returns
 returns c =
     judged_is _ _ c.requires.0 _ _
     c.fill_links.ensures _ _ c.fill_parents.ensures _
-    c.first_links.ensures _
-    c.first.ensures _ _ _ c.check_content.ensures
+    c.first_links-links.ensures _
+    c.first-parents.ensures _ _ _ c.check_content.ensures

@@ -12,9 +12,9 @@ returns-in_default c =
 
 pub file_length-length-requires : goal.file_length-length-requires
 file_length-length-requires c =
-    sizes_small _ _ _ c.args.file.now _ _ c.check_network-said.ensures c.in-Sound.is
+    sizes_small _ _ _ c.args.file.now _ _ c.check_network-said.ensures c.in-Ok.is
 
 pub returns : goal.returns
 returns c =
     verdict_meant _ _ _ c.by_number.ensures _
-    (room_judged _ _ _ _ _ _ c.check_network-said.ensures c.in-Sound.is _ c.file_length-length.ensures _ c.refuse_if.ensures)
+    (room_judged _ _ _ _ _ _ c.check_network-said.ensures c.in-Ok.is _ c.file_length-length.ensures _ c.refuse_if.ensures)

@@ -1,12 +1,8 @@
--- The loop of `archive::copy_entries`: what it keeps and what falls. Assumes nothing.
-use Prim.Native.Nat.{◌-◌}
-use Rattle.archive.proofs.Copying.{Copying}
+-- The loop of `archive::copy_entries`: what it keeps. Assumes nothing.
+use mathlib.Core.Path.{◌≡◌}
+use Rattle.archive.specs.Work.{copied}
 use Rattle.archive.proofs.copy_entries.Given as goal
 
 abbrev pub invariant-loop-x : goal.invariant-loop-x
 invariant-loop-x l =
-    Copying l.from l.n l.initial.row l.x l.row
-
-abbrev pub decreases-loop-x : goal.decreases-loop-x
-decreases-loop-x l =
-    l.n - l.x
+    l.row ≡ copied l.from l.x l.initial.row

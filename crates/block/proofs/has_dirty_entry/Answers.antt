@@ -1,16 +1,16 @@
 -- `block::has_dirty_entry` meets its contract. Assumes nothing.
-use Rattle.block.proofs.Clean.{clean_start, clean_more, clean_found}
-use mathlib.Core.Path.{sym, ◌∙◌}
+use mathlib.Core.Path.{refl, ◌∙◌}
+use native.Mathlib.Omega.{arith}
+use borrow.Author.Rules.{rules}
+use borrow.Author.Tests.{tests}
+use Rattle.std.proofs.lemmas.Iterator.{YieldsList-from_range}
+use Rattle.std.proofs.lemmas.Iterator.Search.{any_from_yields_List}
+use Rattle.block.specs.Block.{dirty_entry}
+use Rattle.block.proofs.Passing.{any_below}
 use Rattle.block.proofs.has_dirty_entry.Goals as goal
 
-pub loop-r-init : goal.loop-r-init
-loop-r-init c =
-    clean_start _ _
-
-pub returns-then-is_dirty_entry : goal.returns-then-is_dirty_entry
-returns-then-is_dirty_entry c =
-    clean_found _ _ _ c.loop-r.invariant c.loop-r-test.true (sym c.is_dirty_entry.ensures ∙ c.if-is_dirty_entry.true)
-
-pub loop-r-preserved : goal.loop-r-preserved
-loop-r-preserved c =
-    clean_more _ _ _ c.loop-r.invariant c.loop-r-test.true (sym c.is_dirty_entry.ensures ∙ c.if-is_dirty_entry.false)
+pub returns : goal.returns
+returns c =
+    any_from_yields_List (dirty_entry c.args.b.now) _ _ _ c.any.ensures.ran (YieldsList-from_range 0 c.args.used c.args.used refl (omega arith))
+    (λ x b q k. search (rules, tests))
+    ∙ any_below (dirty_entry c.args.b.now) c.args.used

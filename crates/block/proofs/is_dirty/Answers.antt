@@ -1,20 +1,20 @@
 -- `block::is_dirty` meets its contract. Assumes nothing.
-use borrow.Author.Tests.{eq-eqb, ne_eqb}
-use Rattle.block.proofs.Clean.{clean_start, clean_more, clean_found}
-use mathlib.Core.Path.{ap}
+use mathlib.Core.Path.{◌∙◌}
 use mathlib.Core.Bool.{not}
+use Prim.Native.Nat.{◌+◌}
+use borrow.Author.Rules.{rules}
+use borrow.Author.Tests.{tests}
+use lib.Dec.{eqb}
+use Rattle.std.specs.List.{between}
+use Rattle.std.proofs.lemmas.Iterator.{YieldsList-from_slice}
+use Rattle.std.proofs.lemmas.Iterator.Search.{any_from_yields_List}
 use Rattle.block.specs.Bytes.{dirty}
+use Rattle.block.proofs.Passing.{any_between}
 use Rattle.block.proofs.is_dirty.Goals as goal
 
-pub loop-j-init : goal.loop-j-init
-loop-j-init c =
-    clean_start _ _
-
-pub returns-then-b-from-ne0 : goal.returns-then-b-from-ne0
+pub returns : goal.returns
 unfolding dirty
-returns-then-b-from-ne0 c =
-    clean_found _ _ _ c.loop-j.invariant c.loop-j-test.true (ap not (ne_eqb _ _ c.if-b-from-ne0.true))
-
-pub loop-j-preserved : goal.loop-j-preserved
-loop-j-preserved c =
-    clean_more _ _ _ c.loop-j.invariant c.loop-j-test.true (ap not (eq-eqb _ _ c.if-b-from-ne0.false))
+returns c =
+    let part = between c.args.from (c.args.from + c.args.count) c.args.b.now in
+    any_from_yields_List (λ x. not (eqb x 0)) _ _ _ c.any.ensures.ran (YieldsList-from_slice part cc) (λ x b q k. search (rules, tests))
+    ∙ any_between (λ x. not (eqb x 0)) c.args.b.now c.args.from c.args.count c.requires

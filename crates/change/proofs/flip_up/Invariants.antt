@@ -7,8 +7,8 @@ use Rattle.change.proofs.flip_up.Given as goal
 
 abbrev pub invariant-loop-c : goal.invariant-loop-c
 invariant-loop-c l =
-    Flipping (tree_in l.links l.parents l.search) l.u l.initial.asked l.c l.asked
+    Flipping (tree_in l.net.links.now l.net.parents.now l.net.search) l.u l.initial.asked l.c l.asked
 
 abbrev pub decreases-loop-c : goal.decreases-loop-c
 decreases-loop-c l =
-    length (route (tree_in l.links l.parents l.search) l.c)
+    length (route (tree_in l.net.links.now l.net.parents.now l.net.search) l.c)

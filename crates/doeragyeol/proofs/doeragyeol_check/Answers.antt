@@ -6,10 +6,10 @@ pub returns-then-sizes-lt-SIZES : goal.returns-then-sizes-lt-SIZES
 returns-then-sizes-lt-SIZES c =
     check_short _ _ c.if-sizes-lt-SIZES.true _ c.short_word.ensures
 
-pub returns-in-Sound : goal.returns-in-Sound
-returns-in-Sound c =
-    check_sound _ _ c.if-sizes-lt-SIZES.false _ c.check_network.ensures _ c.in-Sound.is _ c.put_two.ensures
+pub returns-in-Ok : goal.returns-in-Ok
+returns-in-Ok c =
+    check_sound _ _ c.if-sizes-lt-SIZES.false _ c.check_network.ensures _ c.in-Ok.is _ c.put.ensures
 
-pub returns-in-Unsound : goal.returns-in-Unsound
-returns-in-Unsound c =
-    check_unsound _ _ c.if-sizes-lt-SIZES.false _ c.check_network.ensures _ c.in-Unsound.is _ c.refusal_word.ensures
+pub returns-in-Err : goal.returns-in-Err
+returns-in-Err c =
+    check_unsound _ _ c.if-sizes-lt-SIZES.false _ c.check_network.ensures _ c.in-Err.is _ c.refusal_word.ensures

@@ -6,11 +6,11 @@ pub returns-then-told-lt-TOLD : goal.returns-then-told-lt-TOLD
 returns-then-told-lt-TOLD c =
     map-short _ _ _ c.if-told-lt-TOLD.true _ c.short_word.ensures
 
-pub returns-in-Is : goal.returns-in-Is
-returns-in-Is c =
-    map-taken _ _ _ c.if-told-lt-TOLD.false _ c.unprotected_map.ensures.0 _ c.unprotected_map.ensures.1 _ c.in-Is.is _ c.put_two.ensures
+pub returns-in-Ok : goal.returns-in-Ok
+returns-in-Ok c =
+    map-taken _ _ _ c.if-told-lt-TOLD.false _ c.unprotected_map.ensures.0 _ c.unprotected_map.ensures.1 _ c.in-Ok.is _ c.put.ensures
 
-pub returns-in-Not : goal.returns-in-Not
-returns-in-Not c =
-    map-refused _ _ _ c.if-told-lt-TOLD.false _ c.unprotected_map.ensures.0 _ c.unprotected_map.ensures.1 _ c.in-Not.is _
+pub returns-in-Err : goal.returns-in-Err
+returns-in-Err c =
+    map-refused _ _ _ c.if-told-lt-TOLD.false _ c.unprotected_map.ensures.0 _ c.unprotected_map.ensures.1 _ c.in-Err.is _
     c.refusal_word.ensures

@@ -6,12 +6,12 @@ pub returns-then-header-lt-HEADER : goal.returns-then-header-lt-HEADER
 returns-then-header-lt-HEADER c =
     read_short _ _ _ _ _ c.if-header-lt-HEADER.true _ c.check_read.ensures _ c.word.ensures
 
-pub returns-in-Is : goal.returns-in-Is
-returns-in-Is c =
-    read_taken _ _ _ _ _ c.if-header-lt-HEADER.false _ c.read.ensures.0 _ _ _ c.read.ensures.1 c.read.ensures.2 c.read.ensures.3 _ c.in-Is.is _
-    c.put_header.ensures
+pub returns-in-Ok : goal.returns-in-Ok
+returns-in-Ok c =
+    read_taken _ _ _ _ _ c.if-header-lt-HEADER.false _ c.read.ensures.0 _ _ _ c.read.ensures.1 c.read.ensures.2 c.read.ensures.3 _ c.in-Ok.is _
+    c.put.ensures
 
-pub returns-in-Not : goal.returns-in-Not
-returns-in-Not c =
+pub returns-in-Err : goal.returns-in-Err
+returns-in-Err c =
     read_refused _ _ _ _ _ c.if-header-lt-HEADER.false _ c.read.ensures.0 _ _ _ c.read.ensures.1 c.read.ensures.2 c.read.ensures.3 _
-    c.in-Not.is _ c.refusal_word.ensures
+    c.in-Err.is _ c.refusal_word.ensures

@@ -1,4 +1,6 @@
 -- `doeragyeol::forward_word` meets its contract. Assumes nothing.
+use Rattle.std.specs.Prelude.{Ok}
+use Rattle.std.proofs.Common.{ap, ◌∙◌}
 use Rattle.doeragyeol.proofs.Answering.{forward_short, forward_ordinary, forward_detour, forward_refused}
 use Rattle.doeragyeol.proofs.forward_word.Goals as goal
 
@@ -6,16 +8,16 @@ pub returns-then-way-lt-WAY : goal.returns-then-way-lt-WAY
 returns-then-way-lt-WAY c =
     forward_short _ _ _ _ _ c.if-way-lt-WAY.true _ c.short_word.ensures
 
-pub returns-in-Ordinary : goal.returns-in-Ordinary
-returns-in-Ordinary c =
+pub returns-in-Ok-Ordinary : goal.returns-in-Ok-Ordinary
+returns-in-Ok-Ordinary c =
     forward_ordinary _ _ _ _ _ c.if-way-lt-WAY.false _ c.fill.ensures.0 _ _ c.fill.ensures.1 c.fill.ensures.2 _
-    c.in-Ordinary.is _ c.put_three.ensures
+    (c.in-Ok-Ordinary.is ∙ ap Ok c.in-Ok-Ordinary.field-0-is) _ c.put.ensures
 
-pub returns-in-Detour : goal.returns-in-Detour
-returns-in-Detour c =
+pub returns-in-Ok-Detour : goal.returns-in-Ok-Detour
+returns-in-Ok-Detour c =
     forward_detour _ _ _ _ _ c.if-way-lt-WAY.false _ c.fill.ensures.0 _ _ c.fill.ensures.1 c.fill.ensures.2 _
-    c.in-Detour.is _ c.put_three-in-Detour.ensures
+    (c.in-Ok-Detour.is ∙ ap Ok c.in-Ok-Detour.field-0-is) _ c.put-in-Ok-Detour.ensures
 
-pub returns-in-Neither : goal.returns-in-Neither
-returns-in-Neither c =
-    forward_refused _ _ _ _ _ c.if-way-lt-WAY.false _ c.fill.ensures.0 _ _ c.fill.ensures.1 c.fill.ensures.2 _ c.in-Neither.is _ c.refusal_word.ensures
+pub returns-in-Err : goal.returns-in-Err
+returns-in-Err c =
+    forward_refused _ _ _ _ _ c.if-way-lt-WAY.false _ c.fill.ensures.0 _ _ c.fill.ensures.1 c.fill.ensures.2 _ c.in-Err.is _ c.refusal_word.ensures

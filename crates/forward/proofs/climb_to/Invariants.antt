@@ -6,10 +6,10 @@ use Rattle.tree.proofs.Onto.{Onward}
 use Rattle.forward.proofs.Reaching.{ends}
 use Rattle.forward.proofs.climb_to.Given as goal
 
-abbrev pub invariant-loop-search : goal.invariant-loop-search
-invariant-loop-search l =
-    Onward (tree_in l.links l.parents l.search) l.u (ends l.search.root l.x) l.c
+abbrev pub invariant-loop-net : goal.invariant-loop-net
+invariant-loop-net l =
+    Onward (tree_in l.net.links.now l.net.parents.now l.net.search) l.u (ends l.net.search.root l.x) l.c
 
-abbrev pub decreases-loop-search : goal.decreases-loop-search
-decreases-loop-search l =
-    length (route (tree_in l.links l.parents l.search) l.c.node)
+abbrev pub decreases-loop-net : goal.decreases-loop-net
+decreases-loop-net l =
+    length (route (tree_in l.net.links.now l.net.parents.now l.net.search) l.c.node)

@@ -1,15 +1,8 @@
 -- `map::count_of` meets its contract. Assumes nothing.
-use Rattle.map.proofs.Wording.{counting_start, counting_more, counting_end}
+use native.Mathlib.Omega.{arith}
+use Rattle.map.proofs.Wording.{ones_room}
 use Rattle.map.proofs.count_of.Goals as goal
 
-pub loop-i-init : goal.loop-i-init
-loop-i-init c =
-    counting_start _
-
-pub loop-i-preserved : goal.loop-i-preserved
-loop-i-preserved c =
-    counting_more _ _ _ c.loop-i.invariant c.loop-i-test.true (c.shared_slice_known-1.given _).fits
-
-pub returns : goal.returns
-returns c =
-    counting_end _ _ _ c.loop-i.invariant c.loop-i-test.false
+pub overflow_add-total : goal.overflow_add-total
+overflow_add-total c =
+    omega (arith, ones_room _ (λ i. omega (arith, c.type_inv.words i)) _ c.loop-i-test.true _ c.loop-i.invariant)

@@ -1,13 +1,10 @@
--- The loop of `map::count_of`: what it keeps and what falls. Assumes nothing.
-use Prim.Native.Nat.{◌-◌}
-use Rattle.edition.specs.Limits.{map_words}
-use Rattle.map.proofs.Wording.{Counting}
+-- The loop of `map::count_of`: what it keeps. Assumes nothing.
+use mathlib.Core.Path.{◌≡◌}
+use lib.Count.{ones}
+use lib.ListN.{get_or}
+use Rattle.rows.specs.Count.{sum_to}
 use Rattle.map.proofs.count_of.Given as goal
 
 abbrev pub invariant-loop-i : goal.invariant-loop-i
 invariant-loop-i l =
-    Counting l.words l.total l.i
-
-abbrev pub decreases-loop-i : goal.decreases-loop-i
-decreases-loop-i l =
-    map_words - l.i
+    l.total ≡ sum_to (λ i. ones (get_or l.words i 0)) l.i

@@ -1,5 +1,4 @@
--- The loop of `map::fill_words`: what it keeps and what falls. Assumes nothing.
-use Prim.Native.Nat.{◌-◌}
+-- The loop of `map::fill_words`: what it keeps. Assumes nothing.
 use Rattle.edition.specs.Limits.{map_words}
 use Rattle.map.specs.Work.{open_by, word_by}
 use Rattle.rows.proofs.Filling.{Filled}
@@ -8,7 +7,3 @@ use Rattle.map.proofs.fill_words.Given as goal
 abbrev pub invariant-loop-i : goal.invariant-loop-i
 invariant-loop-i l =
     Filled (word_by (open_by l.entries l.n)) map_words l.initial.words l.i l.words
-
-abbrev pub decreases-loop-i : goal.decreases-loop-i
-decreases-loop-i l =
-    map_words - l.i

@@ -1,11 +1,7 @@
--- The loop of `numbers::put_number`: what it keeps and what falls. Assumes nothing.
+-- The loop of `numbers::put_number`: what it keeps. Assumes nothing.
 use Rattle.numbers.proofs.Putting.{Putting}
 use Rattle.numbers.proofs.put_number.Given as goal
 
-abbrev pub invariant-loop-left : goal.invariant-loop-left
-invariant-loop-left l =
-    Putting l.initial.bytes l.at l.k l.v l.left l.rest l.bytes
-
-abbrev pub decreases-loop-left : goal.decreases-loop-left
-decreases-loop-left l =
-    l.left
+abbrev pub invariant-loop-j : goal.invariant-loop-j
+invariant-loop-j l =
+    Putting l.initial.bytes l.at l.k l.v l.j l.rest l.bytes

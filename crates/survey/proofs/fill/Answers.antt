@@ -1,20 +1,16 @@
 -- `survey::fill` meets its contract. Assumes nothing.
 use Rattle.survey.proofs.Surveyed.{closed-taken}
 use Rattle.network.specs.Network.{net_of}
-use Rattle.survey.proofs.Filled.{surveyed-refused, surveyed_walked}
+use Rattle.survey.proofs.Filled.{surveyed_walked}
 use mathlib.Core.Path.{sym, ◌∙◌}
 use Rattle.survey.proofs.fill.Goals as goal
-
-pub returns-in_default : goal.returns-in_default
-returns-in_default c =
-    surveyed-refused _ _ _ c.check_closed-fit.ensures _ c.in_default.is
 
 pub know_all-requires : goal.know_all-requires
 unfolding net_of
 know_all-requires c =
-    closed-taken _ _ (sym c.check_closed-fit.ensures ∙ c.in-Taken.is)
+    closed-taken _ _ (sym c.check_closed.ensures ∙ c.in_ok-check_closed.was)
 
 pub returns : goal.returns
 unfolding net_of
 returns c =
-    surveyed_walked _ _ _ c.check_closed-fit.ensures c.in-Taken.is _ _ c.know_all.ensures
+    surveyed_walked _ _ _ c.check_closed.ensures c.in_ok-check_closed.was _ _ c.know_all.ensures

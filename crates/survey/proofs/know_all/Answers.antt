@@ -1,4 +1,7 @@
 -- `survey::know_all` meets its contract. Assumes nothing.
+use Rattle.network.specs.Network.{net_of}
+use Rattle.tree.specs.Tree.{tree_of}
+use Rattle.survey.proofs.Fronts.{front-size, order_front}
 use Rattle.survey.proofs.Routed.{routed_none, routed_some}
 use Rattle.survey.proofs.know_all.Goals as goal
 
@@ -8,4 +11,10 @@ returns-in_default c =
 
 pub returns : goal.returns
 returns c =
-    (routed_none _ _ _ _ c.in_order-lost.ensures.0 c.in-Nothing.is, c.write_known.ensures)
+    (routed_none _ _ _ _ c.in_order-lost.ensures.0 c.in-None.is, c.write_known.ensures)
+
+pub write_known-requires : goal.write_known-requires
+unfolding tree_of net_of
+write_known-requires c =
+    let order = c.in_order-lost.ensures.1 c.in-None.is in
+    (order_front _ _ order, front-size _ _ order, c.requires.1)

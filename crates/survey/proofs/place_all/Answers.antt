@@ -9,20 +9,20 @@ unfolding tree_of net_of
 loop-u-init c =
     turning_start _ c.requires.0 _ _ _ c.requires.1
 
-pub returns-then-k-parents : goal.returns-then-k-parents
+pub returns-in_default : goal.returns-in_default
 unfolding tree_of net_of
-returns-then-k-parents c =
-    turning_lost _ c.requires.0 _ _ _ _ _ _ _ _ c.loop-u.invariant _ _ c.path-1.given c.climb_free-k.ensures c.loop-u-test.true c.if-k-parents.true
+returns-in_default c =
+    turning_lost _ c.requires.0 _ _ _ _ _ _ _ _ c.loop-u.invariant _ c.climb_free.auto.path c.loop-u-test.true c.in_default.ensures
 
 pub loop-u-preserved : goal.loop-u-preserved
 unfolding tree_of net_of
 loop-u-preserved c =
     let ready =
-    turning_ready _ c.requires.0 _ _ _ _ _ _ _ _ c.loop-u.invariant _ _ c.path-1.given c.climb_free-k.ensures
-    c.loop-u-test.true c.if-k-parents.false c.requires.2 in
-    turning_more _ c.requires.0 _ _ _ _ _ _ _ _ c.loop-u.invariant _ _ c.path-1.given c.climb_free-k.ensures
-    c.loop-u-test.true c.if-k-parents.false c.requires.2 _ _ _
-    c.order-1.given c.seats-1.given (c.settle-m.ensures _ _ ready)
+    turning_ready _ c.requires.0 _ _ _ _ _ _ _ _ c.loop-u.invariant _ c.climb_free.auto.path c.loop-u-test.true
+    _ c.in-Some.ensures c.requires.2 in
+    turning_more _ c.requires.0 _ _ _ _ _ _ _ _ c.loop-u.invariant _ c.climb_free.auto.path c.loop-u-test.true
+    _ c.in-Some.ensures c.requires.2 _ _ _
+    c.settle-m.auto.order c.settle-m.auto.seats (c.settle-m.ensures _ _ ready)
 
 pub returns : goal.returns
 unfolding tree_of net_of

@@ -1,4 +1,4 @@
--- The loop of `survey::walk_beside`: what it keeps and what falls. Assumes nothing.
+-- The loop of `survey::walk_beside`: what it keeps. Assumes nothing.
 use Rattle.survey.proofs.Holding.{Walk}
 use Rattle.survey.specs.Work.{Basis, Held, Split, Summed, Sided}
 use Rattle.tree.specs.Tree.{Tree}
@@ -8,9 +8,5 @@ use Rattle.survey.proofs.walk_beside.Given as goal
 
 abbrev pub invariant-loop-i : goal.invariant-loop-i
 invariant-loop-i l =
-    (t : Tree) (before : List ℕ) (b : Basis t l.order l.n)
+    (t : Tree) (before : List ℕ) (b : Basis t l.order)
     → Held t.size before (Summed t) l.initial.row → Walk t before 1 (Split (Summed t) (Sided t) b.ordered.place) l.i l.row
-
-abbrev pub decreases-loop-i : goal.decreases-loop-i
-decreases-loop-i l =
-    l.i

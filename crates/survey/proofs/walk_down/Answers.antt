@@ -1,4 +1,5 @@
 -- `survey::walk_down` meets its contract. Assumes nothing.
+use native.Mathlib.Omega.{arith}
 use Rattle.network.specs.Network.{net_of}
 use Rattle.tree.specs.Tree.{tree_of}
 use Rattle.survey.proofs.Beginning.{begin_end, begin_under, begin_more}
@@ -7,14 +8,14 @@ use Rattle.survey.proofs.walk_down.Goals as goal
 pub begun_at-k-requires : goal.begun_at-k-requires
 unfolding tree_of net_of
 begun_at-k-requires c =
-    begin_under _ _ c.requires.0 _ _ _ (c.loop-i.invariant c.requires.0) c.loop-i-test.true
+    begin_under _ _ c.requires.0 _ _ _ (c.loop-v.invariant c.requires.0) (omega arith)
 
-pub loop-i-preserved : goal.loop-i-preserved
+pub loop-v-preserved : goal.loop-v-preserved
 unfolding tree_of net_of
-loop-i-preserved c =
-    λ o. begin_more _ _ o _ _ _ (c.loop-i.invariant o) c.loop-i-test.true _ c.begun_at-k.ensures _ c.put_known.ensures
+loop-v-preserved c =
+    λ o. begin_more _ _ o _ _ _ (c.loop-v.invariant o) (omega arith) _ c.begun_at-k.ensures _ c.put_known.ensures
 
 pub returns : goal.returns
 unfolding tree_of net_of
 returns c =
-    begin_end _ _ c.requires.0 _ _ _ (c.loop-i.invariant c.requires.0) c.loop-i-test.false
+    begin_end _ _ c.requires.0 _ _ _ (c.loop-v.invariant c.requires.0) (omega arith)

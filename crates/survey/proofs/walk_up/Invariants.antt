@@ -1,4 +1,4 @@
--- The loop of `survey::walk_up`: what it keeps and what falls. Assumes nothing.
+-- The loop of `survey::walk_up`: what it keeps. Assumes nothing.
 use Rattle.survey.proofs.Holding.{Walk}
 use Rattle.survey.specs.Work.{Basis, Held, Begun}
 use Rattle.tree.specs.Tree.{Tree}
@@ -9,9 +9,5 @@ use Rattle.survey.proofs.walk_up.Given as goal
 
 abbrev pub invariant-loop-i : goal.invariant-loop-i
 invariant-loop-i l =
-    (t : Tree) (before : List ℕ) (b : Basis t l.order l.n)
+    (t : Tree) (before : List ℕ) (b : Basis t l.order)
     → Held t.size before (Begun t) l.initial.row → Walk t before 1 (Raised t b.ordered.place) l.i l.row
-
-abbrev pub decreases-loop-i : goal.decreases-loop-i
-decreases-loop-i l =
-    l.i

@@ -1,5 +1,4 @@
 -- `swapfile::take_text` meets its contract. Assumes nothing.
-use Prim.Native.Nat.{◌-◌}
 use Rattle.text.proofs.Numbering.{goes_on}
 use Rattle.swapfile.proofs.take_text.Goals as goal
 

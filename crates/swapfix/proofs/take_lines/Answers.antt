@@ -1,5 +1,4 @@
 -- `swapfix::take_lines` meets its contract. Assumes nothing.
-use Prim.Native.Nat.{◌-◌}
 use Rattle.text.proofs.Numbering.{goes_on}
 use Rattle.swapfix.proofs.take_lines.Goals as goal
 

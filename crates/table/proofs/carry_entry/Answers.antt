@@ -5,8 +5,8 @@ use Rattle.table.proofs.carry_entry.Goals as goal
 
 pub loop-e-init : goal.loop-e-init
 loop-e-init c =
-    (with_none _ _ _ _ c.first_entry-it.ensures, omega arith)
+    with_none _ _ _ _ c.first_entry-it.ensures
 
 pub returns : goal.returns
 returns c =
-    with_all _ _ _ _ _ (omega (arith, c.loop-e-test.false, c.loop-e.invariant.1, c.links_in-m.ensures)) c.loop-e.invariant.0
+    with_all _ _ _ _ _ (omega (arith, c.links_in-e-end.ensures)) c.loop-e.invariant

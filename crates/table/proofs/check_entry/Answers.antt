@@ -13,4 +13,4 @@ returns-in_default c =
 pub returns : goal.returns
 unfolding net_of
 returns c =
-    entry_judged _ _ _ _ c.check_network-said.ensures c.in-Sound.is _ c.refuse_if.ensures
+    entry_judged _ _ _ _ c.check_network-said.ensures c.in-Ok.is _ c.refuse_if.ensures

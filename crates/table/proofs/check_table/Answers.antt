@@ -13,4 +13,4 @@ returns-in_default c =
 pub returns : goal.returns
 unfolding net_of
 returns c =
-    table_judged _ _ _ _ c.check_network-said.ensures c.in-Sound.is _ c.entries_in.ensures _ c.refuse_if.ensures
+    table_judged _ _ _ _ c.check_network-said.ensures c.in-Ok.is _ c.entries_in.ensures _ c.refuse_if.ensures

@@ -6,20 +6,20 @@ pub known_at-x-requires : goal.known_at-x-requires
 known_at-x-requires c =
     x_there c.requires.2
 
-pub product-requires : goal.product-requires
-product-requires c =
-    product_fits c.requires.2 c.known_at-x.ensures
+pub overflow_mul-result : goal.overflow_mul-result
+overflow_mul-result c =
+    record { fits = product_fits c.requires.2 c.known_at-x.ensures }
 
 pub overflow_add-result : goal.overflow_add-result
 overflow_add-result c =
-    record { fits = whole_fits c.requires.2 c.known_at-x.ensures c.product.ensures }
+    record { fits = whole_fits c.requires.2 c.known_at-x.ensures }
 
 pub overflow_sub-result : goal.overflow_sub-result
 overflow_sub-result c =
-    turn_less c.requires.2 c.known_at-x.ensures c.product.ensures
+    turn_less c.requires.2 c.known_at-x.ensures
 
-pub overflow_mul-result : goal.overflow_mul-result
-overflow_mul-result c =
+pub overflow_mul-result-2 : goal.overflow_mul-result-2
+overflow_mul-result-2 c =
     record { fits = own-fits c.requires.2 c.known_at-x.ensures }
 
 pub overflow_sub-result-2 : goal.overflow_sub-result-2
@@ -36,4 +36,4 @@ overflow_add-result-2 c =
 
 pub returns : goal.returns
 returns c =
-    λ g e h. priced h c.known_at-x.ensures c.product.ensures
+    λ g e h. priced h c.known_at-x.ensures

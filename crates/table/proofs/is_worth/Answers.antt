@@ -2,7 +2,6 @@
 use Rattle.table.specs.Prefix.{all_settled}
 use Rattle.edition.specs.declared.Entry.{Entry}
 use Rattle.std.proofs.Common.{sym, ap, ◌∙◌, arith}
-use borrow.Author.Tests.{not-true, not-false}
 use Rattle.table.proofs.Offering.{has-rank, has-entry, node-few, is_asked_lem, not_asked, worth_none, worth_lower, worth_not, worth_tied}
 use Rattle.table.proofs.is_worth.Goals as goal
 
@@ -33,13 +32,13 @@ entry_there-requires c =
 pub returns-then-not-no_better : goal.returns-then-not-no_better
 returns-then-not-no_better c =
     λ g links asked survey e k h p.
-    worth_lower h (is_asked_lem h c.if-ranks-x.false) c.entry_there.ensures p (sym c.no_better.ensures ∙ not-true _ c.if-not-no_better.true-raw)
+    worth_lower h (is_asked_lem h c.if-ranks-x.false) c.entry_there.ensures p (sym c.no_better.ensures ∙ c.if-not-no_better.true)
 
 pub returns-then-search-ne-NEARER : goal.returns-then-search-ne-NEARER
 returns-then-search-ne-NEARER c =
     λ g links asked survey e k h p.
     worth_not h (is_asked_lem h c.if-ranks-x.false) c.entry_there.ensures p
-    (sym c.no_better.ensures ∙ not-false _ c.if-not-no_better.false-raw) c.if-search-ne-NEARER.true
+    (sym c.no_better.ensures ∙ c.if-not-no_better.false) c.if-search-ne-NEARER.true
 
 pub entry_there-requires-2 : goal.entry_there-requires-2
 entry_there-requires-2 c =
@@ -48,5 +47,5 @@ entry_there-requires-2 c =
 pub returns : goal.returns
 returns c =
     λ g links asked survey e k h p.
-    worth_tied h (is_asked_lem h c.if-ranks-x.false) c.entry_there.ensures p (sym c.no_better.ensures ∙ not-false _ c.if-not-no_better.false-raw)
+    worth_tied h (is_asked_lem h c.if-ranks-x.false) c.entry_there.ensures p (sym c.no_better.ensures ∙ c.if-not-no_better.false)
     (c.all_settled.ensures ∙ ap (λ (o : Entry). all_settled o c.args.c) (c.entry_there-2.ensures ∙ sym c.entry_there.ensures))

@@ -21,7 +21,7 @@ loop-u-preserved c =
     λ g asked p q.
     let i = c.loop-u.invariant g asked p q in
     let up = turning_up p q i c.loop-u-test.true in
-    turning_more p q i (c.join_up.ensures _ _ up (c.find_rank-a.ensures _ _ up)) c.ranks-1.given
+    turning_more p q i (c.join_up.ensures _ _ up (c.find_rank-a.ensures _ _ up)) c.join_up.auto.ranks
 
 pub returns : goal.returns
 returns c =

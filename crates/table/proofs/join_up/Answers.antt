@@ -8,11 +8,11 @@ loop-ranks-init c =
 
 pub loop-ranks-smaller : goal.loop-ranks-smaller
 loop-ranks-smaller c =
-    let i = c.loop-ranks.invariant _ _ c.requires.2 c.requires.3 in climbs i.partly i.low c.loop-ranks-test.true c.known_at-k.ensures
+    let i = c.loop-ranks.invariant _ _ c.requires.2 c.requires.3 in climbs i.partly i.low c.loop-ranks-test.true c.known_at-c.ensures
 
 pub loop-ranks-preserved : goal.loop-ranks-preserved
 loop-ranks-preserved c =
-    λ g asked h q. writing_more h q (c.loop-ranks.invariant g asked h q) c.loop-ranks-test.true c.known_at-k.ensures
+    λ g asked h q. writing_more h q (c.loop-ranks.invariant g asked h q) c.loop-ranks-test.true c.known_at-c.ensures
 
 pub returns : goal.returns
 returns c =

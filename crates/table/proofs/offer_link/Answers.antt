@@ -44,7 +44,7 @@ overflow_add-k c =
           omega (
             arith,
             k_fits _ _ _ c.requires.1.surveyed c.requires.2 c.link_at-l.ensures one two
-                (λ i. omega (arith, c.shared_slice_known-1.given i)),
+                c.args.net.short,
           );
     }
 
@@ -52,7 +52,7 @@ pub overflow_add-k-2 : goal.overflow_add-k-2
 overflow_add-k-2 c =
     let one = c.begin_side-a.ensures _ (first_starts _ _ _ c.requires.1.surveyed c.requires.2 c.link_at-l.ensures) in
     let two = c.begin_side-b.ensures _ (second_starts _ _ _ c.requires.1.surveyed c.requires.2 c.link_at-l.ensures) in
-    record { fits = k_fits _ _ _ c.requires.1.surveyed c.requires.2 c.link_at-l.ensures one two (λ i. omega (arith, c.shared_slice_known-1.given i)) }
+    record { fits = k_fits _ _ _ c.requires.1.surveyed c.requires.2 c.link_at-l.ensures one two c.args.net.short }
 
 pub climb_link-requires : goal.climb_link-requires
 climb_link-requires c =
@@ -60,7 +60,7 @@ climb_link-requires c =
     let two = c.begin_side-b.ensures _ (second_starts _ _ _ c.requires.1.surveyed c.requires.2 c.link_at-l.ensures) in (
       _,
       c.requires.0,
-      climbing _ _ _ c.requires.1.surveyed c.requires.2 c.link_at-l.ensures one two (λ i. omega (arith, c.shared_slice_known-1.given i))
+      climbing _ _ _ c.requires.1.surveyed c.requires.2 c.link_at-l.ensures one two c.args.net.short
           c.in_service.ensures c.if-not-in_service.false c.parent_of.ensures c.if-parent_of-e.false c.parent_of-2.ensures
           c.if-parent_of-e-2.false c.requires.1,
     )
@@ -75,6 +75,6 @@ returns c =
     let one = c.begin_side-a.ensures _ (first_starts _ _ _ sv pre.2 c.link_at-l.ensures) in
     let two = c.begin_side-b.ensures _ (second_starts _ _ _ sv pre.2 c.link_at-l.ensures) in
     c.climb_link.ensures _ asked
-    (climbing _ _ _ sv pre.2 c.link_at-l.ensures one two (λ i. omega (arith, c.shared_slice_known-1.given i))
+    (climbing _ _ _ sv pre.2 c.link_at-l.ensures one two c.args.net.short
     c.in_service.ensures c.if-not-in_service.false c.parent_of.ensures c.if-parent_of-e.false c.parent_of-2.ensures
     c.if-parent_of-e-2.false h)

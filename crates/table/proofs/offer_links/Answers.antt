@@ -4,13 +4,11 @@ use Rattle.std.proofs.Common.{arith}
 use Rattle.table.proofs.offer_links.Goals as goal
 
 pub loop-e-preserved : goal.loop-e-preserved
-loop-e-preserved c = (
-  λ asked h. let i =
-      c.loop-e.invariant.0 asked h in to_more _ _ _ _ _ _ _ i c.entries-1.given
-      (c.offer_link.ensures asked (still-searching h i)),
-  omega (arith, c.loop-e-test.true, c.links_in-m.ensures),
-)
+loop-e-preserved c =
+    λ asked h.
+    let i = c.loop-e.invariant asked h in
+    to_more _ _ _ _ _ _ _ i c.offer_link.auto.entries (c.offer_link.ensures asked (still-searching h i))
 
 pub returns : goal.returns
 returns c =
-    λ asked h. to_all _ _ _ _ _ _ _ (omega (arith, c.loop-e-test.false, c.loop-e.invariant.1, c.links_in-m.ensures)) (c.loop-e.invariant.0 asked h)
+    λ asked h. to_all _ _ _ _ _ _ _ (omega (arith, c.links_in-e-end.ensures)) (c.loop-e.invariant asked h)

@@ -1,5 +1,4 @@
 -- `table::with_next` meets its contract. Assumes nothing.
-use Rattle.std.proofs.Common.{arith}
 use Rattle.table.proofs.Carrying.{first-low, second_low, stays_idle, stays_own, stays_beside, crossed}
 use Rattle.table.proofs.with_next.Goals as goal
 
@@ -30,7 +29,7 @@ with_crossed-requires c =
     let first = c.is_below-first.ensures _ _ c.requires.0 (first-low _ _ _ c.requires.0 c.requires.1 c.link_at-l.ensures) in
     let second = c.is_below.ensures _ _ c.requires.0 (second_low _ _ _ c.requires.0 c.requires.1 c.link_at-l.ensures) in (
       _,
-      crossed _ _ _ c.requires.0 c.requires.1 c.link_at-l.ensures c.in_service.ensures (λ i. omega (arith, c.shared_slice_known-1.given i))
+      crossed _ _ _ c.requires.0 c.requires.1 c.link_at-l.ensures c.in_service.ensures c.args.net.short
           c.if-not-in_service.false c.parent_of.ensures c.if-parent_of-e.false first second c.if-first-is_below.false,
       c.requires.2,
     )
@@ -41,5 +40,5 @@ returns c =
     let second = c.is_below.ensures _ _ c.requires.0 (second_low _ _ _ c.requires.0 c.requires.1 c.link_at-l.ensures) in
     c.with_crossed.ensures _
     (crossed _ _ _ c.requires.0 c.requires.1 c.link_at-l.ensures c.in_service.ensures
-    (λ i. omega (arith, c.shared_slice_known-1.given i))
+    c.args.net.short
     c.if-not-in_service.false c.parent_of.ensures c.if-parent_of-e.false first second c.if-first-is_below.false) c.requires.2

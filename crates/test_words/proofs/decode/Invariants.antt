@@ -1,5 +1,4 @@
--- The loop of `test_words::decode`: what it keeps and what falls. Assumes nothing.
-use Prim.Native.Nat.{◌-◌}
+-- The loop of `test_words::decode`: what it keeps. Assumes nothing.
 use lib.ListN.{length}
 use Rattle.rows.proofs.Filling.{Filled}
 use Rattle.test_words.specs.Words.{word_in}
@@ -8,7 +7,3 @@ use Rattle.test_words.proofs.decode.Given as goal
 abbrev pub invariant-loop-i : goal.invariant-loop-i
 invariant-loop-i l =
     Filled (word_in l.bytes) (length l.initial.row) l.initial.row l.i l.row
-
-abbrev pub decreases-loop-i : goal.decreases-loop-i
-decreases-loop-i l =
-    length l.initial.row - l.i

@@ -1,12 +1,7 @@
--- The loop of `text::number_of`: what it keeps and what falls. Assumes nothing.
+-- The loop of `text::number_of`: what it keeps. Assumes nothing.
 use Rattle.text.proofs.Scanning.{Spelling}
-use Prim.Native.Nat.{◌-◌}
 use Rattle.text.proofs.number_of.Given as goal
 
 abbrev pub invariant-loop-i : goal.invariant-loop-i
 invariant-loop-i l =
     Spelling l.text l.from l.to l.value l.i
-
-abbrev pub decreases-loop-i : goal.decreases-loop-i
-decreases-loop-i l =
-    l.to - l.i

@@ -5,7 +5,7 @@ use Rattle.tree.proofs.climb_to_meet.Goals as goal
 
 pub loop-a-init : goal.loop-a-init
 loop-a-init c =
-    together_start _ _ _ (λ i. omega (arith, c.shared_slice_known-1.given i)) c.requires.0 _ _ c.requires.1 c.requires.2 _ _ _ _ c.to_root-from_u.ensures
+    together_start _ _ _ c.args.net.short c.requires.0 _ _ c.requires.1 c.requires.2 _ _ _ _ c.to_root-from_u.ensures
     c.to_root-from_z.ensures c.begin-a.ensures c.begin-b.ensures
 
 pub overflow_add-from_z : goal.overflow_add-from_z

@@ -7,8 +7,9 @@ use Rattle.tree.proofs.climb_to_meet.Given as goal
 
 abbrev pub invariant-loop-a : goal.invariant-loop-a
 invariant-loop-a l =
-    Together (tree_in l.links l.parents l.search) l.u l.z l.from_u l.from_z l.a l.b
+    Together (tree_in l.net.links.now l.net.parents.now l.net.search) l.u l.z l.from_u l.from_z l.a l.b
 
 abbrev pub decreases-loop-a : goal.decreases-loop-a
 decreases-loop-a l =
-    length (route (tree_in l.links l.parents l.search) l.a.node) + length (route (tree_in l.links l.parents l.search) l.b.node)
+    length (route (tree_in l.net.links.now l.net.parents.now l.net.search) l.a.node) + length
+    (route (tree_in l.net.links.now l.net.parents.now l.net.search) l.b.node)

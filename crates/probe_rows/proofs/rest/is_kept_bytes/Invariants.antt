@@ -1,14 +1,8 @@
--- The loop of `probe_rows::rest::is_kept_bytes`: what it keeps and what falls. Assumes nothing.
+-- The loop of `probe_rows::rest::is_kept_bytes`: what it keeps. Assumes nothing.
 use Rattle.probe_rows.proofs.Keeping.{Keeping}
 use Rattle.probe_rows.specs.Rest.{byte_mark}
-use lib.ListN.{length}
-use Prim.Native.Nat.{◌-◌}
 use Rattle.probe_rows.proofs.rest.is_kept_bytes.Given as goal
 
 abbrev pub invariant-loop-i : goal.invariant-loop-i
 invariant-loop-i l =
     Keeping byte_mark l.row l.from l.i
-
-abbrev pub decreases-loop-i : goal.decreases-loop-i
-decreases-loop-i l =
-    length l.row - l.i

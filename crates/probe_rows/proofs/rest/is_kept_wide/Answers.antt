@@ -1,11 +1,6 @@
 -- `probe_rows::rest::is_kept_wide` meets its contract. Assumes nothing.
-use Rattle.probe_rows.proofs.Keeping.{keep_changed, keep_all}
-use Prim.Native.Nat.{◌-◌}
+use Rattle.probe_rows.proofs.Keeping.{keep_all}
 use Rattle.probe_rows.proofs.rest.is_kept_wide.Goals as goal
-
-pub returns-then-row-i-ne-WIDE : goal.returns-then-row-i-ne-WIDE
-returns-then-row-i-ne-WIDE c =
-    keep_changed _ _ _ _ c.loop-i.invariant c.loop-i-test.true c.if-row-i-ne-WIDE.true
 
 pub returns : goal.returns
 returns c =

@@ -28,4 +28,4 @@ overflow_add-self c =
 
 pub returns : goal.returns
 returns c =
-    λ g h. stepped-on h c.known_at-x.ensures c.known_at-p.ensures c.wrapping_add_usize.ensures.value c.wrapping_add_u64.ensures.value c.larger.ensures
+    λ g h. stepped-on h c.known_at-x.ensures c.known_at-p.ensures c.wrapping_add_usize.ensures.value c.wrapping_add_u64.ensures.value c.max.ensures
