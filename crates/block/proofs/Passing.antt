@@ -1,17 +1,20 @@
 -- Whether some number of a list passes a test, asked place by place: `any` against `some_to`. Assumes nothing.
-use mathlib.Core.Path.{◌≡◌, refl, ap}
-use mathlib.Core.Bool.{Bool}
+use mathlib.Core.Path.{◌≡◌, refl, sym, ap, ◌∙◌}
+use mathlib.Core.Bool.{Bool, true, false, not}
 use mathlib.Core.List.{List}
 use Prim.Native.Nat.{ℕ, zero, suc, ◌+◌, ◌<◌, ◌≤◌}
 use native.Mathlib.Numerals.{add-one}
 use native.Mathlib.Omega.{arith}
+use lib.Dec.{eqb}
 use lib.ListN.{length, get_or, take}
 use lib.Seq.{take_all}
+use borrow.Author.Tests.{eq-eqb, ne_eqb}
 use Rattle.std.specs.List.{list_any, between, range_with_len}
 use Rattle.std.proofs.lemmas.List.Edits.{length-between, get_or-between}
 use Rattle.std.proofs.lemmas.List.Folds.{list_any_more}
 use Rattle.std.proofs.lemmas.List.FromFn.{length-range_with_len, get_or-range_with_len}
 use Rattle.rows.specs.Count.{some_to}
+use Rattle.rows.proofs.Best.{none_some, one_some}
 
 -- p asks of the numbers of a list what q asks of their places
 module _ (p q : ℕ → Bool) (xs : List ℕ) (n : ℕ) (l : length xs ≡ n) (alike : (j : ℕ) → j < n → p (get_or xs j 0) ≡ q j) where
@@ -33,10 +36,24 @@ pub any_below : (p : ℕ → Bool) (n : ℕ) → list_any p (range_with_len 0 n)
 any_below p n =
     below p p (range_with_len 0 n) n (length-range_with_len 0 n) (λ j l. ap p (omega (arith, get_or-range_with_len 0 n j 0 l)))
 
--- k numbers of a row from a place on
-pub any_between :
-    (p : ℕ → Bool) (b : List ℕ) (i k : ℕ) → i + k ≤ length b
-    → list_any p (between i (i + k) b) ≡ some_to (λ j. p (get_or b (i + j) 0)) k
-any_between p b i k h =
-    below p (λ j. p (get_or b (i + j) 0)) (between i (i + k) b) k (omega (arith, length-between b i (i + k) h))
-    (λ j l. ap p (get_or-between b i (i + k) j 0 (omega arith)))
+-- one of k numbers of a row from a place on is not 0, or each is
+module _ (b : List ℕ) (i k : ℕ) (h : i + k ≤ length b) where
+  pub some_between :
+      (j : ℕ) → j < length (between i (i + k) b) → (get_or (between i (i + k) b) j 0 ≡ 0 → ⊥)
+      → true ≡ some_to (λ j. not (eqb (get_or b (i + j) 0) 0)) k
+  some_between j l n =
+      let inside : j < k = omega (arith, l, length-between b i (i + k) h) in
+      let same = get_or-between b i (i + k) j 0 (omega arith) in
+      sym
+      (one_some (λ j. not (eqb (get_or b (i + j) 0) 0)) k j inside
+      (ap not (ne_eqb (get_or b (i + j) 0) 0 (λ e. n (same ∙ e)))))
+
+  pub none_between :
+      ((j : ℕ) → j < length (between i (i + k) b) → get_or (between i (i + k) b) j 0 ≡ 0)
+      → false ≡ some_to (λ j. not (eqb (get_or b (i + j) 0) 0)) k
+  none_between zeros =
+      sym
+      (none_some (λ j. not (eqb (get_or b (i + j) 0) 0)) k
+      (λ j l. ap not
+      (eq-eqb (get_or b (i + j) 0) 0
+      (sym (get_or-between b i (i + k) j 0 (omega arith)) ∙ zeros j (omega (arith, l, length-between b i (i + k) h))))))

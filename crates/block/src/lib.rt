@@ -132,7 +132,12 @@ fn is_dirty(b: &[u8], from: usize, count: usize) -> bool
     requires { from + count ≤ length b.now }
     ensures { result ≡ dirty b.now from count }
 {
-    b[from..from + count].iter().any(|x| *x != 0)
+    for byte in &b[from..from + count] {
+        if *byte != 0 {
+            return true;
+        }
+    }
+    false
 }
 
 // Whether a byte inside entry r that should be 0 is not.

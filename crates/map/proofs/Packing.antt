@@ -1,4 +1,4 @@
--- A number made of tests: how the loop builds it from its highest bit down, how many ones it has, which is the lowest.
+-- A number made of tests: how the loop builds it from its lowest bit up, how many ones it has, which is the lowest.
 -- Assumes nothing.
 use mathlib.Core.Path.{◌≡◌, refl, sym, ap}
 use mathlib.Core.Bool.{Bool, true, false}

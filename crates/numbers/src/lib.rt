@@ -27,7 +27,7 @@ pub fn two_at(bytes: &[u8], at: usize) -> u16
 fn put_byte(bytes: &mut [u8], at: usize, j: usize, v: u8)
     ensures { bytes.new ≡ set bytes.old (at + j) v }
 {
-    if j < bytes.len().saturating_sub(at) {
+    if at < bytes.len() && j < bytes.len() - at {
         bytes[at + j] = v;
     }
 }

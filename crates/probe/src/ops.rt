@@ -1,5 +1,6 @@
 // The table of ops. An op is one function over rows and numbers of the head, and answers how much waits to be printed. It is
-// added by its range in `is_op` and its call in `answer_network` or `answer_bytes`.
+// added by its range in `is_op` and its call in `answer_network` or `answer_bytes`. One with rows of its own is not inlined, so that the
+// stack holds the rows of one op at a time.
 ghost use Rattle.std.specs.Prelude.{◌≡◌, ◌≤◌, length};
 ghost use Rattle.probe.specs.Limits.{is_op, takes_bytes};
 
@@ -113,6 +114,7 @@ fn answer_bytes(head: Head, bytes: &[u8], out: &mut [u8], at: usize) -> usize
 }
 
 // Prints what the head's op answers. The rows begin with what was read.
+#[inline(never)]
 pub fn answer(
     head: Head,
     links: &[u16],

@@ -38,6 +38,7 @@ fn put_written(said: Result<usize, Refusal>, file: &[u8], out: &mut [u8], at: us
 
 // Writes the file into the first bytes of a row, and prints the writer's answer and the bytes of the file, and whether the rest of the
 // lent room is kept.
+#[inline(never)]
 pub fn write(net: Network, room: usize, out: &mut [u8], at: usize) -> usize
     ensures { result ≤ length out.new }
 {

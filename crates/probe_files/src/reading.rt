@@ -84,6 +84,7 @@ fn put_read(
 }
 
 // Reads the file into room for a link numbers, b parents and c entry numbers, and prints what that answers and leaves.
+#[inline(never)]
 pub fn read(file: &[u8], a: u16, b: u16, c: u16, out: &mut [u8], at: usize) -> usize
     ensures { result ≤ length out.new }
 {

@@ -98,6 +98,7 @@ fn change_table(
 
 // Prints what the change answers and leaves, on a table worked out first (`filled`) or on a row that is none. The links are copied,
 // and the change is made on the copy.
+#[inline(never)]
 pub fn change(
     net: Network,
     wanted: Change,

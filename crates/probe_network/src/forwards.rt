@@ -53,6 +53,7 @@ fn put_forward<'a>(
 }
 
 // Prints which row applies and its nodes, with so many numbers lent for each of the two, and whether the rest of both is kept.
+#[inline(never)]
 pub fn forward(
     net: Network,
     ask: Ask,

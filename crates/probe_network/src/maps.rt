@@ -46,6 +46,7 @@ fn put_map(said: Result<Unprotected, Refusal>, row: &[u64], out: &mut [u8], at: 
 }
 
 // Works the map out into the first words of a row, and prints its answer and words, and whether the rest of the lent room is kept.
+#[inline(never)]
 pub fn map(net: Network, room: usize, out: &mut [u8], at: usize) -> usize
     ensures { result ≤ length out.new }
 {

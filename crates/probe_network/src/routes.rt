@@ -48,6 +48,7 @@ fn put_route(out: &mut [u8], at: usize, far: u64, root: u16, row: &[usize]) -> u
 }
 
 // Writes the route of node u into the first numbers of a row, and prints it, its length, and whether the rest of the lent room is kept.
+#[inline(never)]
 pub fn route(net: Network, u: u16, room: usize, out: &mut [u8], at: usize) -> usize
     ensures { result ≤ length out.new }
 {

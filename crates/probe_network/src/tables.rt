@@ -30,6 +30,7 @@ fn put_table(said: Result<(), Refusal>, n: usize, row: &[u64], out: &mut [u8], a
 
 // Works the table out into the first numbers of a row, and prints its answer and entries, and whether the rest of the lent room is
 // kept.
+#[inline(never)]
 pub fn table(net: Network, room: usize, out: &mut [u8], at: usize) -> usize
     ensures { result ≤ length out.new }
 {

@@ -1,7 +1,7 @@
 -- Two outcomes that a promise allows are equal: one theorem a public function, in the words of its contract. Assumes nothing.
 use Rattle.std.specs.Prelude.{ℕ, Bool, get_or, take, List, Option}
 use Rattle.edition.specs.declared.Why.{Why}
-use Rattle.rows.specs.First.{refuse_if, refused_at}
+use Rattle.rows.specs.First.{first_to, refuse_if, refused_at}
 use Rattle.edition.proofs.Only.{One, one}
 
 -- `rows::at`
@@ -19,6 +19,10 @@ one_first row n = one _
 -- `rows::refuse_if`
 pub one_refuse_if : (bad : Bool) (why : Why) (place : ℕ) → One (refuse_if bad why place)
 one_refuse_if bad why place = one _
+
+-- `rows::lowest`
+pub one_lowest : (n : ℕ) (p : ℕ → Bool) → One (first_to p n)
+one_lowest n p = one _
 
 -- `rows::refused_at`
 pub one_refused_at : (why : Why) (found : Option ℕ) → One (refused_at why found)

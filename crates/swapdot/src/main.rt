@@ -4,7 +4,7 @@
 
 use archive::Header;
 use desk::Desk;
-use edition::{Edition, Entry, Measure, Memory, Search};
+use edition::{Edition, Entry, Measure, Memory, Search, Swap};
 use network::Link;
 use std::io::Print;
 use std::rt::Files;
@@ -79,17 +79,26 @@ fn put_nodes(out: &mut [u8], at: usize, entries: &[u64], n: usize, measure: Meas
     waits
 }
 
-// Whether link e is the swap link of node x and its end with this mark the lower one.
-fn is_lower_of(entries: &[u64], x: usize, e: usize, mark: u64, measure: Measure) -> bool {
+// The swap link of node x; none where it has none.
+fn swap_of(entries: &[u64], x: usize, measure: Measure) -> Swap {
     let entry = entries::entry_at(entries, x);
-    let swap = edition::swap_by(entry, measure);
-    entry.state == Edition::SWAP && swap.link == e as u64 && swap.lower == mark
+    if entry.state != Edition::SWAP {
+        return Edition::no_swap();
+    }
+    edition::swap_by(entry, measure)
+}
+
+// Writes the swap link of each node that the row has.
+fn fill_swaps(entries: &[u64], measure: Measure, swaps: &mut [Swap]) {
+    for x in 0..swaps.len() {
+        swaps[x] = swap_of(entries, x, measure);
+    }
 }
 
 // Whether link e is the swap link of a node for which its end with this mark is the lower one.
-fn is_lower(entries: &[u64], n: usize, e: usize, mark: u64, measure: Measure) -> bool {
-    for x in 0..n {
-        if is_lower_of(entries, x, e, mark, measure) {
+fn is_lower(swaps: &[Swap], e: usize, mark: u64) -> bool {
+    for swap in swaps {
+        if swap.link == e as u64 && swap.lower == mark {
             return true;
         }
     }
@@ -113,9 +122,8 @@ fn put_style(
     at: usize,
     link: Link,
     parents: &[u16],
-    entries: &[u64],
+    swaps: &[Swap],
     e: usize,
-    measure: Measure,
 ) -> usize {
     if !network::in_service(link) {
         return output::put(out, at, b"style = dotted");
@@ -123,8 +131,8 @@ fn put_style(
     if network::is_parent(parents, e) {
         return output::put(out, at, b"penwidth = 3");
     }
-    let first = is_lower(entries, parents.len(), e, Edition::FIRST, measure);
-    let second = is_lower(entries, parents.len(), e, Edition::SECOND, measure);
+    let first = is_lower(swaps, e, Edition::FIRST);
+    let second = is_lower(swaps, e, Edition::SECOND);
     put_spare(out, at, first, second)
 }
 
@@ -151,14 +159,13 @@ fn put_link(
     at: usize,
     links: &[u16],
     parents: &[u16],
-    entries: &[u64],
+    swaps: &[Swap],
     e: usize,
-    measure: Measure,
 ) -> usize {
     let link = network::link_at(links, e);
     let ends = put_ends(out, at, link);
     let labelled = put_label(out, ends, link, e);
-    let drawn = put_style(out, labelled, link, parents, entries, e, measure);
+    let drawn = put_style(out, labelled, link, parents, swaps, e);
     output::put(out, drawn, b"];\n")
 }
 
@@ -168,13 +175,12 @@ fn put_links(
     at: usize,
     links: &[u16],
     parents: &[u16],
-    entries: &[u64],
+    swaps: &[Swap],
     m: usize,
-    measure: Measure,
 ) -> usize {
     let mut waits = at;
     for e in 0..m {
-        waits = put_link(out, waits, links, parents, entries, e, measure);
+        waits = put_link(out, waits, links, parents, swaps, e);
     }
     waits
 }
@@ -189,10 +195,13 @@ fn draw<R: Print>(
     measure: Measure,
 ) -> bool {
     let mut out = [0u8; OUT];
+    let mut swaps = [Edition::no_swap(); Memory::NODES];
+    fill_swaps(entries, measure, &mut swaps);
+    let crossed = &swaps[..header.nodes.min(Memory::NODES)];
     let held = rows::first(parents, header.nodes);
     let titled = put_title(&mut out, 0, header.search, measure);
     let nodes = put_nodes(&mut out, titled, entries, header.nodes, measure);
-    let drawn = put_links(&mut out, nodes, links, held, entries, header.links, measure);
+    let drawn = put_links(&mut out, nodes, links, held, crossed, header.links);
     let ended = output::put(&mut out, drawn, b"}\n");
     desk::print(rt, &out, ended)
 }

@@ -146,6 +146,7 @@ fn with_digit(value: u16, byte: u8) -> Option<u16>
 
 // The number that the bytes from one place to before another spell, if they do.
 #[tactic(auto, using(crate::proofs::Scanning::spelling))]
+#[inline(never)]
 fn number_of(text: &[u8], from: usize, to: usize) -> Option<u16>
     ensures { result ≡ number_from text.now 0 from (to - from) }
 {
@@ -189,6 +190,7 @@ fn kind_of(text: &[u8], from: usize, to: usize) -> Word
 
 // The name, among all of them.
 #[tactic(auto, unfolding(crate::specs::Words::name_of))]
+#[inline(never)]
 fn name_of(text: &[u8], from: usize, to: usize) -> Word
     ensures { result ≡ name_of text.now from to }
 {
@@ -218,8 +220,9 @@ fn word_of(text: &[u8], from: usize, to: usize) -> Word
     }
 }
 
-// The next word of a line from a place on.
+// The next word of a line from a place on. It is inlined, and what spells a word is not, so that a line without words costs little.
 #[tactic(auto, unfolding(crate::specs::Words::next_word, crate::specs::Words::next_end))]
+#[inline(always)]
 fn next(text: &[u8], at: usize, end: usize) -> Found
     ensures { (result.word ≡ next_word text.now end at) × (result.to ≡ next_end text.now end at) }
 {

@@ -170,9 +170,9 @@ pub fn check_way(net: Network, u: usize) -> Result<(), Refusal>
 }
 
 // Writes the route of u from place `at` on, with `left` nodes left to go, and gives its length.
-fn write_route(net: Network, left: usize, u: usize, row: &mut [usize], at: usize) -> u64
+fn write_route(net: &Network, left: usize, u: usize, row: &mut [usize], at: usize) -> u64
     requires { (left ≤ node_limit) × (at + left ≤ length row.old) }
-    ensures { let g = lent net.entry in
+    ensures { let g = lent net.entry.now in
         Routed (tree_of g) left u at row.old result row.new }
 {
     if left == 0 {
@@ -182,8 +182,8 @@ fn write_route(net: Network, left: usize, u: usize, row: &mut [usize], at: usize
     if u == net.search.root as usize {
         return 0;
     }
-    let w = rise(net, u);
-    let p = up(net, u);
+    let w = rise(*net, u);
+    let p = up(*net, u);
     w as u64 + write_route(net, left - 1, p, row, at + 1)
 }
 
@@ -198,7 +198,7 @@ pub fn route(net: Network, u: usize, row: &mut [usize]) -> Result<u64, Refusal>
     let c = to_root(net, u);
     let nodes = c.hops + 1;
     rows::refuse_if(row.len() < nodes, Why::NoRoom, 0)?;
-    Ok(write_route(net, nodes, u, row, 0))
+    Ok(write_route(&net, nodes, u, row, 0))
 }
 
 // Where the routes of u and z meet, and the length of the tree path from u to z. Of the two nodes the one that is more hops from the

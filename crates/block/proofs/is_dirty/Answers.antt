@@ -1,20 +1,15 @@
 -- `block::is_dirty` meets its contract. Assumes nothing.
-use mathlib.Core.Path.{◌∙◌}
-use mathlib.Core.Bool.{not}
-use Prim.Native.Nat.{◌+◌}
-use borrow.Author.Rules.{rules}
-use borrow.Author.Tests.{tests}
-use lib.Dec.{eqb}
-use Rattle.std.specs.List.{between}
-use Rattle.std.proofs.lemmas.Iterator.{YieldsList-from_slice}
-use Rattle.std.proofs.lemmas.Iterator.Search.{any_from_yields_List}
+use Rattle.std.proofs.Common.{arith}
+use Rattle.block.proofs.Passing.{some_between, none_between}
 use Rattle.block.specs.Bytes.{dirty}
-use Rattle.block.proofs.Passing.{any_between}
 use Rattle.block.proofs.is_dirty.Goals as goal
+
+pub returns-then-byte-ne0 : goal.returns-then-byte-ne0
+unfolding dirty
+returns-then-byte-ne0 c =
+    some_between c.args.b.now c.args.from c.args.count c.requires _ c.loop-byte-test.true c.if-byte-ne0.true
 
 pub returns : goal.returns
 unfolding dirty
 returns c =
-    let part = between c.args.from (c.args.from + c.args.count) c.args.b.now in
-    any_from_yields_List (λ x. not (eqb x 0)) _ _ _ c.any.ensures.ran (YieldsList-from_slice part cc) (λ x b q k. search (rules, tests))
-    ∙ any_between (λ x. not (eqb x 0)) c.args.b.now c.args.from c.args.count c.requires
+    none_between c.args.b.now c.args.from c.args.count c.requires (λ j l. c.loop-byte.invariant j (omega (arith, l, c.loop-byte-test.false)))

@@ -11,5 +11,5 @@ returns-then-u-net t c = routed_root _ _ _ _ _ _ _ c.if-left-eq0.false c.if-u-ne
 pub returns : goal.returns
 returns t c =
     routed_more _ _ _ _ _ _
-    c.args.net.short
+    c.args.net.now.short
     _ c.if-left-eq0.false c.if-u-net.false _ _ _ c.rise-w.ensures c.up-p.ensures _ c.write_route.ensures
