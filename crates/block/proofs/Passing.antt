@@ -1,4 +1,5 @@
--- Whether some number of a list passes a test, asked place by place: `any` against `some_to`. Assumes nothing.
+-- Whether some number passes a test, asked place by place: `any` against `some_to`, and the bytes of a part against `dirty`. Assumes
+-- nothing.
 use mathlib.Core.Path.{◌≡◌, refl, sym, ap, ◌∙◌}
 use mathlib.Core.Bool.{Bool, true, false, not}
 use mathlib.Core.List.{List}
@@ -15,6 +16,7 @@ use Rattle.std.proofs.lemmas.List.Folds.{list_any_more}
 use Rattle.std.proofs.lemmas.List.FromFn.{length-range_with_len, get_or-range_with_len}
 use Rattle.rows.specs.Count.{some_to}
 use Rattle.rows.proofs.Best.{none_some, one_some}
+use Rattle.block.specs.Bytes.{dirty}
 
 -- p asks of the numbers of a list what q asks of their places
 module _ (p q : ℕ → Bool) (xs : List ℕ) (n : ℕ) (l : length xs ≡ n) (alike : (j : ℕ) → j < n → p (get_or xs j 0) ≡ q j) where
@@ -36,11 +38,12 @@ pub any_below : (p : ℕ → Bool) (n : ℕ) → list_any p (range_with_len 0 n)
 any_below p n =
     below p p (range_with_len 0 n) n (length-range_with_len 0 n) (λ j l. ap p (omega (arith, get_or-range_with_len 0 n j 0 l)))
 
--- one of k numbers of a row from a place on is not 0, or each is
+-- one of the k bytes from a place on is not 0, or each is
 module _ (b : List ℕ) (i k : ℕ) (h : i + k ≤ length b) where
   pub some_between :
       (j : ℕ) → j < length (between i (i + k) b) → (get_or (between i (i + k) b) j 0 ≡ 0 → ⊥)
-      → true ≡ some_to (λ j. not (eqb (get_or b (i + j) 0) 0)) k
+      → true ≡ dirty b i k
+  unfolding dirty
   some_between j l n =
       let inside : j < k = omega (arith, l, length-between b i (i + k) h) in
       let same = get_or-between b i (i + k) j 0 (omega arith) in
@@ -50,7 +53,8 @@ module _ (b : List ℕ) (i k : ℕ) (h : i + k ≤ length b) where
 
   pub none_between :
       ((j : ℕ) → j < length (between i (i + k) b) → get_or (between i (i + k) b) j 0 ≡ 0)
-      → false ≡ some_to (λ j. not (eqb (get_or b (i + j) 0) 0)) k
+      → false ≡ dirty b i k
+  unfolding dirty
   none_between zeros =
       sym
       (none_some (λ j. not (eqb (get_or b (i + j) 0) 0)) k

@@ -1,6 +1,6 @@
 // The table of ops. An op is one function over rows and numbers of the head, and answers how much waits to be printed. It is
 // added by its range in `is_op` and its call in `answer_network` or `answer_bytes`. One with rows of its own is not inlined, so that the
-// stack holds the rows of one op at a time.
+// stack holds the rows of one op at a time; nor is `answer`, so that it holds none before an op is known.
 ghost use Rattle.std.specs.Prelude.{◌≡◌, ◌≤◌, length};
 ghost use Rattle.probe.specs.Limits.{is_op, takes_bytes};
 
